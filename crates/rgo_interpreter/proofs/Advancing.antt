@@ -1,4 +1,5 @@
--- Turns of at most one step, and one turn after another.
+-- Turns of at most one step, and one turn after another. Only a turn that was spent is followed by another, and such a turn changes no
+-- channel and prints nothing; so what two turns in a row have changed is what the second has.
 use Rattle.std.proofs.Common.{◌≡◌, ◌≤◌, ◌+◌, ℕ, Bool, true, false, List, [], ◌∷◌, length, replicate}
 use Rattle.std.proofs.Common.{Option, Some, None, Ok, slice_get, refl, ap, sym, ◌∙◌, subst, arith}
 use Rattle.std.specs.Prelude.{option_and_then, nat_le, if◌then◌else◌}

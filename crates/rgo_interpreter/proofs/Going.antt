@@ -1,4 +1,5 @@
--- What one goroutine does, as a step of the machine.
+-- What one goroutine does, as a step of the machine: one lemma for each thing that it can be before. Each is about `alone` among any other
+-- goroutines, so the list of goroutines is not looked into. The hard case is a return, which ends the run if it is the last of `main`.
 use Rattle.std.proofs.Common.{◌≡◌, ℕ, zero, suc, Bool, true, false, List, [], ◌∷◌, Option, Some, None, Result, Ok}
 use Rattle.std.proofs.Common.{option_map, slice_set, refl, ap, sym, ◌∙◌, subst, ◌+◌, length, reverse, drop, get_or}
 use Rattle.std.specs.declared.alloc.AllocError.{AllocError}

@@ -1,4 +1,5 @@
--- The heap that contracts see, by the entries that it is made of.
+-- The heap that contracts see, by the entries that it is made of. It is a list of what each number reads, so a change of the blocks is
+-- shown number by number: a number is determined by its block and its slot, so all but one read what they did.
 use Rattle.std.specs.Prelude.{Option, Some, None, slice_set, nat_eq}
 use Rattle.std.specs.Borrow.{MutBor}
 use Rattle.std.specs.List.{range_with_len}

@@ -1,4 +1,5 @@
--- What is done to one object in place, as done to the memory.
+-- What is done to one object in place, as done to the memory. If there is no object, nothing is done: the definitions do nothing to a
+-- struct without fields, as which it is read.
 use Rattle.std.specs.Prelude.{Option, Some, None, Result, Ok, Err, slice_get, slice_set}
 use Rattle.std.specs.Option.{unwrap_or}
 use Rattle.std.specs.declared.alloc.AllocError.{AllocError}

@@ -1,4 +1,5 @@
--- Steps that stay within the limits, and where a limit is met.
+-- Steps that stay within the limits, and where a limit is met. Only a call adds a frame and only a start adds a goroutine, and the code
+-- tests both before the step; every other step stays within the limits because there are no more of either.
 use Rattle.std.proofs.Common.{◌≡◌, ℕ, zero, suc, Bool, true, false, List, [], ◌∷◌, ◌++◌, length, Option, Some, None}
 use Rattle.std.proofs.Common.{slice_get, slice_set, option_map, refl, ap, sym, ◌∙◌, subst, arith, length-set}
 use Rattle.std.proofs.Common.{length-append}

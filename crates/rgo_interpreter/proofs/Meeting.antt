@@ -1,4 +1,5 @@
--- Who meets: a receiver and a sender at one open channel without a buffer.
+-- Who meets: a receiver and a sender at one open channel without a buffer. The code changes one goroutine and then the other, the
+-- definition has both changes in one state: they are different goroutines, since none is at a receive and a send.
 use Rattle.std.proofs.Common.{◌≡◌, ℕ, zero, suc, Bool, true, false, List, [], ◌∷◌, Option, Some, None}
 use Rattle.std.proofs.Common.{slice_get, slice_set, refl, ap, sym, ◌∙◌, eq-eqb, ◌<◌, ◌≤◌, length, get_or, arith}
 use Rattle.std.proofs.lemmas.Bool.{ne_eqb}

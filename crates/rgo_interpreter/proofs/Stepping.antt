@@ -1,4 +1,4 @@
--- The step of one goroutine alone, in the state.
+-- The step of one goroutine alone, in the state: what Going shows of the goroutine that was lent is put back into the list that it is from.
 use Rattle.std.proofs.Common.{◌≡◌, ◌<◌, ◌≤◌, ℕ, List, [], ◌∷◌, ◌++◌, length, Option, Some, None, Result, Ok}
 use Rattle.std.proofs.Common.{option_map, slice_get, slice_set, get_or, refl, ap, sym, ◌∙◌, subst}
 use Rattle.std.specs.Prelude.{option_and_then}

@@ -1,4 +1,5 @@
--- A receiver and a sender that meet are looked for by the numbers of their channels.
+-- A receiver and a sender that meet are looked for by the numbers of their channels: whether two meet depends on that number alone, so a
+-- sender that does not meet the receiver that was found for its channel meets no other.
 use Rattle.std.proofs.Common.{◌≡◌, ◌<◌, ◌≤◌, ◌+◌, ◌⊎◌, inl, inr, ℕ, true, false, length}
 use Rattle.std.proofs.Common.{Option, Some, None, slice_get, option_map, refl, ap, sym, subst, ◌∙◌, arith}
 use Rattle.std.proofs.lemmas.Bool.{cases_eq, cases_lt, ne_eqb}

@@ -24,7 +24,8 @@ happened_by (effect.Traps trap) channel place = happened.Ends (the_end.Trap trap
 happened_by (effect.Gives v) (value.Object n) place = happened.Operates n
 happened_by (effect.Gives v) _ place = happened.Moves
 
--- which channels changed: at most the one that was operated on
+-- Which channels changed: at most the one that was operated on. A driver wakes only those that wait there, so this is what makes it right
+-- to leave the others asleep.
 abbrev pub ChangesAt : Result Happened AllocError → Memory → Memory → Type 0
 ChangesAt (Ok (happened.Operates n)) before after = SameChannelsBut n before after
 ChangesAt _ before after = SameChannels before after
@@ -33,7 +34,7 @@ abbrev pub is_at_start : CodeStand → Bool
 is_at_start code.Start = true
 is_at_start _ = false
 
--- the channel from which a goroutine receives next, where it stands there
+-- the channel from which a goroutine receives next, if it is at a receive
 abbrev pub receives_at : Option CodeStand → Option Value
 receives_at (Some (code.Receive channel blank)) = Some channel
 receives_at _ = None
@@ -43,13 +44,13 @@ abbrev pub sends_at : Option CodeStand → Option (Value × Value)
 sends_at (Some (code.Send channel v place)) = Some (channel, v)
 sends_at _ = None
 
--- the print, as it was unless something was printed
+-- the print, which is as it was unless the step printed: so a driver looks at the print only after such a step
 abbrev pub KeepsPrint : Result Happened AllocError → (old new : List ℕ) → Type 0
 KeepsPrint (Ok happened.Prints) old new = Unit {0}
 KeepsPrint _ old new = new ≡ old
 
 module _ {F : Type 0} where
-  -- the frames after an operation on a channel, which gave this value
+  -- the frames after an operation on a channel that returned this value
   abbrev pub after_operation : Machine F → Value → List F → List F
   after_operation machine v [] = []
   after_operation machine v (f ∷ callers) = frame_after_operation f v (machine.stand f) ∷ callers
@@ -79,8 +80,8 @@ module _ {F : Type 0} where
   entered_by machine [] = None
   entered_by machine (f ∷ callers) = option_map (onto callers) (entered_frames (machine.stand f))
 
-  -- The frame of the function that was called or started. Where there was none, and on allocation failure, nothing
-  -- changed.
+  -- The frame of the function that was called or started. If there was none, and on allocation failure, nothing
+  -- changed: the step can be left out, or is the end of the run.
   abbrev pub EntersNewest : Machine F → Result (Option F) AllocError → (before after : List F) → Type 0
   EntersNewest machine (Ok (Some begun)) before after = entered_by machine before ≡ Some (after, begun)
   EntersNewest machine (Ok None) before after = (entered_by machine before ≡ None) × (after ≡ before)
@@ -112,14 +113,15 @@ module _ {F : Type 0} where
   abbrev pub running : Memory → List (List F) → List ℕ → State F
   running m goroutines printed = record { memory = m; goroutines = goroutines; printed = printed; ended = None }
 
-  -- the goroutine of this number, among any others, has a step from these frames to those
+  -- The goroutine of this number, among any others, has a step from these frames to those. It is stated for all lists of goroutines, so
+  -- that code can hold one goroutine and know nothing of the list.
   abbrev pub GoroutineSteps : Machine F → ℕ → Option End → (m n : Memory) (before after : List F) (old new : List ℕ) → Type 0
   GoroutineSteps machine g ended m n before after old new =
       (goroutines : List (List F)) → slice_get goroutines g ≡ Some before
       → alone machine (running m goroutines old) g before
       ≡ Some (record { memory = n; goroutines = slice_set goroutines g after; printed = new; ended = ended })
 
-  -- What a goroutine of this number did, with the memory, its frames and the print before and after. Where it waits,
+  -- What a goroutine of this number did, with the memory, its frames and the print before and after. If it waits,
   -- and on allocation failure, nothing changed.
   abbrev pub Happens
       : Machine F → ℕ → Result Happened AllocError → (m n : Memory) (before after : List F) (old new : List ℕ)
@@ -132,7 +134,7 @@ module _ {F : Type 0} where
   Happens machine g (Ok _) m n before after old new = GoroutineSteps machine g None m n before after old new
   Happens machine g (Err e) m n before after old new = (n ≡ m) × (after ≡ before) × (new ≡ old)
 
-  -- what a step of one goroutine alone answers; where it waits, and on allocation failure, nothing changed
+  -- the result of a step of one goroutine alone; if it waits, and on allocation failure, nothing changed
   abbrev pub StepsAlone : Result Happened AllocError → (before after : State F) → Option (State F) → Type 0
   StepsAlone (Ok happened.Waits) before after next = (next ≡ None) × (after ≡ before)
   StepsAlone (Ok (happened.Ends e)) before after next = (next ≡ Some after) × (after.ended ≡ Some e)
@@ -144,7 +146,7 @@ module _ {F : Type 0} where
   MeetsSo true before after next = (next ≡ Some after) × (after.ended ≡ None)
   MeetsSo false before after next = (next ≡ None) × (after ≡ before)
 
-  -- the goroutines after an operation of one on a channel, which gave this value
+  -- the goroutines after an operation of one of them on a channel, which returned this value
   abbrev pub goroutines_after_operation : Machine F → Value → List (List F) → ℕ → List (List F)
   goroutines_after_operation machine v [] g = []
   goroutines_after_operation machine v (frames ∷ goroutines) zero = after_operation machine v frames ∷ goroutines

@@ -12,7 +12,8 @@ abbrev pub slot_in_block : Option Block → ℕ → Option Object
 slot_in_block (Some block) slot = slot_of_block block slot
 slot_in_block None slot = None
 
--- the block ends with this in that slot; the other slots have what they had
+-- The block ends with this in that slot; the other slots have what they had. It is stated by slots, since a list of slots that ends early
+-- and one with empty slots hold the same objects.
 abbrev pub PutsIn : Option Block → ℕ → Option Object → Option Block → Type 0
 PutsIn before slot object after =
     (slot_in_block after slot ≡ object) × ((k : ℕ) → (k ≡ slot → ⊥) → slot_in_block after k ≡ slot_in_block before k)

@@ -1,4 +1,5 @@
--- What becomes of the memory, or of a block of it, when one of its objects is lent to be changed.
+-- What becomes of the memory, or of a block of it, when one of its objects is lent to be changed: it ends with what was written, and all
+-- else is as it was.
 use Rattle.std.specs.Prelude.{◌≡◌, ℕ, Option, Some, OnSome, nat_eq}
 use Rattle.std.specs.Borrow.{Fml, MutBor, LendsSo}
 use Rattle.indexmap.specs.IndexMap.{Updates}

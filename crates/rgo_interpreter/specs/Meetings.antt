@@ -1,4 +1,5 @@
--- Who meets: a receiver and a sender that stand at one open channel without a buffer.
+-- Who meets: a receiver and a sender at one open channel without a buffer. The code finds them by the numbers of channels; here it is
+-- stated by the steps of the machine, so that a deadlock needs no other notion.
 use Rattle.std.specs.Prelude.{◌≡◌, ◌<◌, ℕ, Option, Some, None, option_and_then}
 use Rattle.std.specs.Option.{option_map}
 use Rattle.rgo_memory.specs.declared.values.Value.{Value}
@@ -29,18 +30,19 @@ module _ {F : Type 0} (machine : Machine F) where
   abbrev pub CanMeet : State F → (receiver sender : ℕ) → Type 0
   CanMeet s receiver sender = step_by machine s (Meet receiver sender) ≡ None → ⊥
 
-  -- of the first `count` goroutines, one that receives at each channel where one does
+  -- Among the first `count` goroutines, one that receives at each channel at which one does. Which one does not matter: whether it meets a
+  -- sender depends on the channel. `complete` is what a report of a deadlock rests on.
   pub record FindsReceivers (s : State F) (count : ℕ) (found : ℕ → Option ℕ) : Type 0 where
     pub sound : (channel receiver : ℕ) → found channel ≡ Some receiver → receiver_at s receiver ≡ Some channel
     pub complete : (channel receiver : ℕ) → receiver < count → receiver_at s receiver ≡ Some channel
         → found channel ≡ None → ⊥
 
-  -- the receiver of this sender; none where there is none
+  -- a receiver that meets this sender; none only if no goroutine does
   abbrev pub FindsPartner : State F → (sender : ℕ) → Option ℕ → Type 0
   FindsPartner s sender None = IsUnmet s sender
   FindsPartner s sender (Some receiver) = CanMeet s receiver sender
 
-  -- a receiver and a sender that meet; none where no two do
+  -- a receiver and a sender that meet; none only if no two do
   abbrev pub FindsMeeting : State F → Option (ℕ × ℕ) → Type 0
   FindsMeeting s None = (sender : ℕ) → IsUnmet s sender
   FindsMeeting s (Some met) = CanMeet s met.0 met.1

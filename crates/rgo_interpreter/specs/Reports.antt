@@ -1,4 +1,5 @@
--- What the code reports of goroutines that wait, and of deadlocks.
+-- What the code reports of goroutines that wait, and of deadlocks. Both results are claimed: a deadlock that is not reported would be a run
+-- that never ends.
 use Rattle.std.specs.Prelude.{◌≡◌, ℕ, Bool, true, false, None}
 use Rattle.std.specs.Option.{is_some}
 use Rattle.rgo_memory.specs.Channels.{receive, send}
@@ -9,7 +10,7 @@ use Rattle.rgo_machine.specs.Machines.{Machine, State, step_by}
 use Rattle.rgo_interpreter.specs.declared.machines.Stand.{Stand as CodeStand}
 use Rattle.rgo_interpreter.specs.declared.machines.Stand.TheVariants as code
 
--- whether a goroutine that stands there has a step alone
+-- whether a goroutine that is there has a step alone: only a receive and a send can have none
 abbrev pub has_step_alone : Memory → CodeStand → Bool
 has_step_alone m (code.Receive channel blank) = is_some (receive m channel blank)
 has_step_alone m (code.Send channel v place) = is_some (send m channel v)

@@ -1,4 +1,4 @@
--- Where a turn meets a limit, and why it is over after a step.
+-- When a turn meets a limit, and why it is over after a step.
 use Rattle.std.specs.Prelude.{ℕ, nat_le, List, length, Option, Some, None, slice_get, if◌then◌else◌}
 use Rattle.rgo_interpreter.specs.declared.goroutines.Happened.{Happened}
 use Rattle.rgo_interpreter.specs.declared.goroutines.Happened.TheVariants as happened
@@ -19,7 +19,7 @@ turn_of (happened.Operates channel) = record { steps = 1; stop = stop.Operated c
 turn_of (happened.Ends e) = record { steps = 1; stop = stop.Ended e }
 
 module _ {F : Type 0} where
-  -- how many frames a goroutine has, none where it does not exist
+  -- how many frames a goroutine has, 0 if it does not exist
   abbrev pub depth_in : Option (List F) → ℕ
   depth_in None = 0
   depth_in (Some frames) = length frames
@@ -27,7 +27,7 @@ module _ {F : Type 0} where
   abbrev pub depth_of : State F → ℕ → ℕ
   depth_of s g = depth_in (slice_get s.goroutines g)
 
-  -- the limit that a goroutine meets which stands there
+  -- the limit that a goroutine meets at this point
   abbrev pub limit_at : Limits → State F → ℕ → CodeStand → Option TurnEnd
   limit_at limits s g code.Call = if nat_le deepest (depth_of s g) then Some stop.TooDeep else None
   limit_at limits s g code.Start =

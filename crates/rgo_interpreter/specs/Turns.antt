@@ -11,7 +11,8 @@ use Rattle.rgo_machine.specs.Limits.{LeadsWithin, IsCallTooDeep, IsFull}
 use Rattle.rgo_machine.specs.Machines.{Machine, State, step_by}
 
 module _ {F : Type 0} where
-  -- why a turn of at most so many steps is over in a state, after so many steps
+  -- Why a turn of `at_most` steps is over in a state, after `steps`. Each reason says what a driver concludes from it: a goroutine that
+  -- waits has no step alone in this state, one that meets a limit is before the step that would pass it.
   abbrev pub IsOver : Machine F → Limits → State F → ℕ → (at_most steps : ℕ) → TurnEnd → Type 0
   IsOver machine limits t g at_most steps stop.Spent = (t.ended ≡ None) × (steps ≡ at_most)
   IsOver machine limits t g at_most steps stop.Waits = (t.ended ≡ None) × (step_by machine t (One g) ≡ None)
@@ -20,11 +21,11 @@ module _ {F : Type 0} where
   IsOver machine limits t g at_most steps (stop.Ended e) = (t.ended ≡ Some e) × (0 < steps)
   IsOver machine limits t g at_most steps stop.TooDeep = (t.ended ≡ None) × IsCallTooDeep machine t
   IsOver machine limits t g at_most steps stop.Full = (t.ended ≡ None) × IsFull machine limits t
-  -- what it has no room for is a matter of the machine's code
+  -- room is not a notion of machines: what is lacking is stated by the run under way (`lacks` of its view)
   IsOver machine limits t g at_most steps (stop.NoRoom shortage) = t.ended ≡ None
   IsOver machine limits t g at_most steps stop.NoMemory = t.ended ≡ None
 
--- which channels a turn has changed: at most one, that which it tells of
+-- which channels a turn has changed: at most the one that it reports, so only goroutines that wait there need a turn again
 abbrev pub ChangesChannels : TurnEnd → Memory → Memory → Type 0
 ChangesChannels (stop.Operated channel) before after = SameChannelsBut channel before after
 ChangesChannels stop.Spent before after = SameChannels before after
@@ -36,7 +37,7 @@ ChangesChannels stop.Full before after = SameChannels before after
 ChangesChannels (stop.NoRoom shortage) before after = SameChannels before after
 ChangesChannels stop.NoMemory before after = SameChannels before after
 
--- what a turn has printed: nothing, where it is not over by that
+-- what a turn has printed: nothing, unless it is over because of that
 abbrev pub ChangesPrint : TurnEnd → (before after : List ℕ) → Type 0
 ChangesPrint stop.Printed before after = Unit {0}
 ChangesPrint stop.Spent before after = after ≡ before

@@ -1,4 +1,5 @@
-//! What each action does.
+//! What each action does. Every function here has the shape of its definition in rgo_memory, by the number of operands, so that each
+//! is proved by its cases.
 
 ghost use Rattle.std.specs.Prelude.{◌≡◌};
 ghost use Rattle.rgo_memory.specs.Perform.{set_variable, on_none, on_one, on_two, on_three};
@@ -19,6 +20,7 @@ fn set_variable(memory: &mut Memory, number: usize, value: Value) -> Effect
     ensures { LeavesOutcome result (memory_view memory.old) (memory_view memory.new)
         (set_variable number value (memory_view memory.old)) }
 {
+    // No variable of this number: nothing is done, and the step still counts. No typed program names one.
     if let Some(variable) = memory.variables.get_mut(number) {
         *variable = value;
     }
@@ -153,14 +155,15 @@ fn on_three(memory: &mut Memory, action: Action, x: Value, y: Value, z: Value) -
     }
 }
 
-/// What an action does with these operands, where its value is of this type. The structs are those
-/// of the program. `nil` where the action takes another number of operands or other values.
+/// What an action does with these operands; `ty` is the type of its value, and the structs are those
+/// of the program. `nil` if the action takes another number of operands or other values, which no typed
+/// program has: so a machine needs no proof that its code is well-formed.
 ///
-/// Receive, send and close are not among them: see `receive`, `send`, `close`.
+/// Receive, send and close are not among them, since an action never waits: see `receive`, `send`, `close`.
 ///
 /// # Errors
 ///
-/// Where there is no memory for a new object. Then nothing changed.
+/// If there is no memory for a new object. Then nothing changed.
 pub fn perform(
     alloc: Global,
     memory: &mut Memory,

@@ -1,4 +1,5 @@
-//! Blocks of objects: the objects of neighbouring numbers are neighbours in memory too.
+//! Blocks of objects: the objects of neighbouring numbers are neighbours in memory, too. A program often reads
+//! objects in about the order in which it made them.
 
 ghost use Rattle.std.specs.Prelude.{◌≡◌, ◌<◌, ℕ, IsTrue, IfOk, OnOk, None, Some};
 ghost use Rattle.std.specs.Borrow.{sem};
@@ -9,7 +10,7 @@ ghost use Rattle.rgo_interpreter.specs.Lending.{LendsSlot};
 use crate::objects::Object;
 use std::alloc::{AllocError, Global};
 
-/// How many numbers share a block.
+/// How many numbers share a block: a power of two, so that the block and the slot of a number are a shift and a mask.
 pub(crate) const SLOTS: usize = 16;
 
 /// The objects of consecutive numbers, by slots. There may be fewer slots than numbers: the others have no object.
@@ -64,12 +65,14 @@ impl Block {
         ensures put { OnOk result (slot_of_block self.new slot ≡ Some object) }
         ensures kept { (k : ℕ) → k < slot → slot_of_block self.new k ≡ slot_of_block self.old k }
     {
+        // Changes nothing in a run: the newest block has a slot for each number below. No invariant states that, and with this
+        // the contract holds without it.
         self.slots.resize_with(slot, || None)?;
         self.slots.push(Some(object))?;
         Ok(())
     }
 
-    /// Takes the object in a slot away.
+    /// Takes the object in a slot away, and returns its memory. The slot stays, since the numbers of the others count on it.
     pub(crate) fn clear(&mut self, slot: usize)
         ensures { Puts self.old slot None self.new }
     {

@@ -1,5 +1,6 @@
 //! Channels (The Go Programming Language Specification, "Channel types", "Receive operator", "Send
-//! statements", "Close"): first in, first out. A channel that is nil is never ready.
+//! statements", "Close"): first in, first out. A channel that is nil is never ready. Nothing here waits: an operation that is not
+//! ready returns `None`, changes nothing, and is tried again in a later step.
 
 ghost use Rattle.std.specs.Prelude.{◌≡◌};
 ghost use Rattle.std.specs.Option.{is_some};
@@ -27,8 +28,9 @@ fn receive_from(object: &mut Object, blank: Value) -> Option<Effect>
     }
 }
 
-/// A receive: `None` where the channel is open and empty, or nil, so that the receiver has to wait. A closed channel
-/// gives what it still has, and then `blank`.
+/// A receive: `None` if the channel is open and empty, or nil, so that the receiver has to wait. A closed channel
+/// returns what it still has, and then `blank`. A receiver takes from the buffer only: with a sender that waits at a channel
+/// without a buffer it meets, see `meets_at`.
 pub fn receive(memory: &mut Memory, channel: Value, blank: Value) -> Option<Effect>
     ensures { LeavesIfReady result (memory_view memory.old) (memory_view memory.new)
         (receive (memory_view memory.old) channel blank) }
@@ -52,7 +54,7 @@ fn has_value(object: &Object) -> bool
     }
 }
 
-/// Whether a receiver at this channel does not have to wait.
+/// Whether a receiver at this channel does not have to wait. It changes nothing, for the search for a deadlock.
 #[tactic(auto, using(crate::proofs::Reading::ready_read))]
 pub fn can_receive(memory: &Memory, channel: Value) -> bool
     ensures { (blank : Value) → result ≡ is_some (receive (memory_view memory.now) channel blank) }
@@ -74,6 +76,7 @@ fn send_in(channel: &mut Channel, value: Value) -> Result<Option<Effect>, AllocE
     if channel.closed {
         return Ok(Some(Effect::Traps(Trap::SendClosed)));
     }
+    // Only after the test above: a send to a closed channel traps even if the buffer is full.
     if channel.queue.len() >= channel.capacity {
         return Ok(None);
     }
@@ -91,12 +94,12 @@ fn send_to(object: &mut Object, value: Value) -> Result<Option<Effect>, AllocErr
     }
 }
 
-/// A send to the buffer: `None` where it is full, or the channel is nil, so that the sender has to wait. A send to a
-/// closed channel traps.
+/// A send to the buffer: `None` if it is full, or the channel is nil, so that the sender has to wait. A send to a
+/// closed channel traps. A channel without a buffer is always full: its senders only meet receivers.
 ///
 /// # Errors
 ///
-/// Where there is no memory for the value. Then nothing changed.
+/// If there is no memory for the value. Then nothing changed.
 pub fn send(memory: &mut Memory, channel: Value, value: Value) -> Result<Option<Effect>, AllocError>
     ensures { PerformsIfReady result (memory_view memory.old) (memory_view memory.new)
         (send (memory_view memory.old) channel value) }
@@ -149,7 +152,7 @@ fn shut(object: &mut Object) -> Effect
     Effect::Gives(Value::Nil)
 }
 
-/// A close. A close of nil, or of a closed channel, traps.
+/// A close. A close of nil, or of a closed channel, traps; so it never waits. The queue stays: receivers still get its values.
 pub fn close(memory: &mut Memory, channel: Value) -> Effect
     ensures { LeavesOutcome result (memory_view memory.old) (memory_view memory.new)
         (close (memory_view memory.old) channel) }
@@ -174,7 +177,7 @@ fn is_meeting_place(object: &Object) -> bool
 }
 
 /// Whether a receiver at the first channel and a sender at the second meet: whether both are one
-/// open channel without a buffer.
+/// open channel without a buffer. A closed one is not a meeting place, since its senders trap.
 pub fn meets_at(memory: &Memory, receiver: Value, sender: Value) -> bool
     ensures { result ≡ meets_at (memory_view memory.now) receiver sender }
 {

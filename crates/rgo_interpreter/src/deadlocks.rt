@@ -1,4 +1,5 @@
-//! Deadlocks: the run has not ended, no goroutine has a step alone, and no two meet.
+//! Deadlocks: the run has not ended, no goroutine has a step alone, and no two meet. All goroutines are searched, since a wrong count
+//! of those that wait would be a wrong report.
 
 ghost use Rattle.std.specs.Prelude.{◌≡◌, None, IfOk};
 ghost use Rattle.std.specs.Option.{is_some};
@@ -15,7 +16,7 @@ use crate::memory::Memory;
 use crate::states::{State, standing};
 use std::alloc::{AllocError, Global};
 
-/// Whether a goroutine that stands there does not have to wait.
+/// Whether a goroutine that is there has a step alone. Only a receive and a send can wait; a close succeeds or traps.
 fn is_ready(memory: &Memory, stand: Stand) -> bool
     ensures { result ≡ deadlocks.has_step_alone (memory_view memory.now) stand }
 {
@@ -68,6 +69,7 @@ pub fn is_deadlock<M: Machine>(
     if !all_wait(machine, state) {
         return Ok(false);
     }
+    // Last, since it takes memory and time for all goroutines.
     match find_meeting(alloc, machine, state)? {
         Some(_) => Ok(false),
         None => Ok(true),

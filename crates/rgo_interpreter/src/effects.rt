@@ -8,9 +8,9 @@ use rgo_memory::{Trap, Value};
 /// What an action does.
 #[derive(Clone, Copy, Debug, PartialEq, Eq)]
 pub enum Effect {
-    /// It is done, with this value: nil where it is to give none.
+    /// It is done, with this value: nil if it returns none.
     Gives(Value),
-    /// It traps, and changes nothing.
+    /// It traps, and changes nothing: the state of a run that has ended is that before the trap.
     Traps(Trap),
 }
 

@@ -35,6 +35,7 @@ pub fn element_at(memory: &Memory, slice: Value, index: Value) -> Result<Value, 
     match (slice, index) {
         (Value::Nil, Value::Int(_)) => Err(Trap::IndexRange),
         (Value::Object(n), Value::Int(index)) => match memory.object(n) {
+            // Only a slice is indexed in a typed program; any other object reads as nil.
             Some(Object::Slice(cells)) => element(cells, index),
             _ => Ok(Value::Nil),
         },

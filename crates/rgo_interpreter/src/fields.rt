@@ -21,6 +21,7 @@ pub fn load(memory: &Memory, pointer: Value, field: usize) -> Result<Value, Trap
     match pointer {
         Value::Nil => Err(Trap::NilPointer),
         Value::Object(n) => match memory.object(n) {
+            // Other objects, and fields that the struct does not have, read as nil: no typed program selects them.
             Some(Object::Struct(cells)) => Ok(cells.get(field).copied().unwrap_or(Value::Nil)),
             _ => Ok(Value::Nil),
         },
@@ -33,6 +34,7 @@ fn store_in(object: &mut Object, field: usize, value: Value) -> Effect
     ensures { LeavesOutcome result (object_view object.old) (object_view object.new)
         (store_outcome field value (object_view object.old)) }
 {
+    // A field that the struct does not have is not written, as in the definition.
     if let Object::Struct(cells) = object {
         if let Some(cell) = cells.get_mut(field) {
             *cell = value;

@@ -1,4 +1,4 @@
-//! What actions do to the frames of any machine.
+//! What actions do to the frames of any machine: what the source machine and the three-address machine have in common.
 
 ghost use Rattle.std.specs.Prelude.{◌≡◌, ◌<◌, ℕ, length, IfSome, MatchOption};
 ghost use Rattle.rgo_memory.specs.declared.values.Value as the_value;
@@ -11,7 +11,7 @@ use rgo_memory::Value;
 use rgo_typed::{Action, Base, Row, Type};
 use std::alloc::Global;
 
-/// The type of an action that gives no value. Allocates nothing.
+/// The type of an action that returns no value. Allocates nothing, so it may be made at each step.
 pub fn no_type(alloc: Global) -> Type
     ensures { result ≡ spec.no_type }
 {
@@ -21,7 +21,7 @@ pub fn no_type(alloc: Global) -> Type
     }
 }
 
-/// Whether a value is true. One that is not a bool counts as false.
+/// Whether a value is true. One that is not a bool counts as false, so that every branch has a way.
 #[inline(always)]
 pub fn is_true(value: Value) -> bool
     ensures { result ≡ spec.is_true value }
@@ -32,8 +32,8 @@ pub fn is_true(value: Value) -> bool
     }
 }
 
-/// Where a frame of type `F` stands whose next action is this one on these values, at a place of the text. A closed
-/// channel gives `blank`.
+/// Where a frame of type `F` is before this action on these values, at a place of the text: at a channel, if the action is an
+/// operation on one. A closed channel returns `blank`, which depends on the type that the receiver expects, so the caller passes it.
 pub fn at_channel<F>(action: Action, blank: Value, at: Place, values: &[Value]) -> Stand
     ensures { (go_on : the_value.Value → F)
         → result ≡ stand_of (spec.at_channel action blank at go_on values.now) }
@@ -79,8 +79,8 @@ pub fn at_channel<F>(action: Action, blank: Value, at: Place, values: &[Value]) 
     }
 }
 
-/// The value with which a frame of type `F` continues after this action on these values, where it is an operation on a
-/// channel that gave this value: a send or a close gives nil.
+/// The value with which a frame of type `F` continues after this action on these values, if it is an operation on a
+/// channel that returned `value`; `None` for any other action. A send or a close returns nil, whatever `value` is.
 pub fn given<F>(action: Action, values: &[Value], value: Value) -> Option<Value>
     ensures passes { (f : F) (blank : the_value.Value) (at : ℕ) (go_on : the_value.Value → F)
         → MatchOption result (frame_after_operation f value (spec.at_channel action blank at go_on values.now) ≡ f)

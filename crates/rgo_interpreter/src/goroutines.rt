@@ -1,4 +1,5 @@
-//! What one goroutine does by its frames, whatever the other goroutines are.
+//! What one goroutine does by its frames, whatever the other goroutines are. An error or a wait leaves the frames as they were, so
+//! each function takes the memory that it needs before it changes anything.
 
 ghost use Rattle.std.specs.Prelude.{◌≡◌, OnOk, OnErr, Some, false, reverse};
 ghost use Rattle.std.specs.Vec.{vec_len, vec_capacity};
@@ -23,16 +24,17 @@ use std::alloc::{AllocError, Global};
 pub(crate) enum Happened {
     /// Nothing: it has returned, or waits at a channel.
     Waits,
-    /// It continues; none of the following.
+    /// It continues, and none of the following happened.
     Moves,
     Prints,
-    /// It operated on the channel of this number.
+    /// It operated on the channel of this number, so goroutines that wait there may continue.
     Operates(usize),
     /// It ended the run.
     Ends(End),
 }
 
-/// The newest frame continues after an operation on a channel, which gave this value.
+/// The newest frame continues after an operation on a channel that returned this value. Cannot fail: at a meeting the second of two
+/// goroutines has to continue when the first has.
 pub(crate) fn pass<M: Machine>(machine: &M, goroutine: &mut Goroutine<M::Frame>, value: Value)
     ensures { goroutine.new ≡ after_operation (M.machine machine.now) value goroutine.old }
 {
@@ -67,6 +69,7 @@ fn call<M: Machine>(
 ) -> Result<bool, AllocError>
     ensures { Calls (M.machine machine.now) result goroutine.old goroutine.new }
 {
+    // The room comes first: when the caller's frame has continued, nothing may fail any more.
     goroutine.frames.reserve(1)?;
     match enter(alloc, machine, &mut goroutine.frames)? {
         Some(callee) => {
@@ -85,6 +88,7 @@ pub(crate) fn begin<M: Machine>(
 ) -> Result<Option<Goroutine<M::Frame>>, AllocError>
     ensures { ChildBegins (M.machine machine.now) result goroutine.old goroutine.new }
 {
+    // As in `call`: the room comes before the change.
     let mut frames = Vec::with_capacity(alloc, 1)?;
     match enter(alloc, machine, &mut goroutine.frames)? {
         Some(child) => {
@@ -117,6 +121,7 @@ fn leave<M: Machine>(
 fn returned<F>(goroutine: &Goroutine<F>, g: usize) -> Happened
     ensures { result ≡ ended_by_return g goroutine.now }
 {
+    // Only the return of `main` ends the run; a goroutine that has returned just has no frames left.
     if g == 0 && goroutine.frames.is_empty() {
         Happened::Ends(End::Exit)
     } else {
@@ -181,7 +186,7 @@ fn operate<M: Machine>(
     operated(effect, channel, place)
 }
 
-/// One step of a goroutine whose newest frame is there. It is not at the start of another goroutine.
+/// One step of a goroutine whose newest frame is at `stand`. It is not at the start of another goroutine.
 pub(crate) fn go<M: Machine>(
     alloc: Global,
     machine: &M,
@@ -200,6 +205,7 @@ pub(crate) fn go<M: Machine>(
 {
     match stand {
         Stand::Receive { channel, blank } => match receive(memory, channel, blank) {
+            // A receive never traps, so any place does.
             Some(effect) => Ok(operate(machine, goroutine, effect, channel, 0)),
             None => Ok(Happened::Waits),
         },
@@ -217,9 +223,11 @@ pub(crate) fn go<M: Machine>(
         }
         Stand::Call => match call(alloc, machine, goroutine)? {
             true => Ok(Happened::Moves),
+            // Does not happen: the newest frame is at a call, so `enter` returns a frame.
             false => Ok(Happened::Waits),
         },
         Stand::Elsewhere => act(alloc, machine, memory, goroutine, printed, g),
+        // Does not happen (`starts_none`): a start adds to the list of goroutines, of which one is borrowed here. See `start`.
         Stand::Start => Ok(Happened::Waits),
     }
 }

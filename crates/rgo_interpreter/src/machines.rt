@@ -1,14 +1,16 @@
-//! What a machine is: its definition, and the code that does what the definition says of one frame.
+//! What a machine is: its definition, and the code that does to one frame what the definition says. Two machines have such code: that
+//! of typed trees and that of three-address code.
 
 use crate::memory::Memory;
 use rgo_ast::Place;
 use rgo_memory::{Trap, Value};
 use std::alloc::{AllocError, Global};
 
-/// Where a frame stands.
+/// Where a frame is: what it is about to do with others. Unlike the definition it does not carry how the frame continues, which
+/// would be a copy of the frame: `pass` and `enter` change the frame where it is.
 #[derive(Clone, Copy, Debug, PartialEq, Eq)]
 pub enum Stand {
-    /// Before a receive from this channel. A closed channel gives `blank`.
+    /// Before a receive from this channel. A closed channel returns `blank`, the zero of the type that the receiver expects.
     Receive {
         channel: Value,
         blank: Value,
@@ -58,15 +60,16 @@ pub trait Machine {
 
     ghost machine: { Self → spec.Machine Self.Frame };
 
-    /// Where a frame stands.
+    /// Where a frame is. It looks at the frame only, so it does not depend on what other goroutines do.
     fn stand(&self, frame: &Self::Frame) -> Stand
         ensures { result ≡ stand_of ((machine self.now).stand frame.now) };
 
-    /// A frame continues after an operation on a channel, which gave this value: nil where it gives none.
+    /// A frame continues after an operation on a channel that returned this value, nil if it returned none. It cannot fail: both
+    /// goroutines of a meeting continue in one step.
     fn pass(&self, frame: &mut Self::Frame, value: Value)
         ensures { frame.new ≡ frame_after_operation frame.old value ((machine self.now).stand frame.old) };
 
-    /// A frame continues after a call or a start. Answers the new frame; `None` where it stands at neither.
+    /// A frame continues after a call or a start. Returns the new frame; `None` if it is at neither.
     ///
     /// # Errors
     ///
@@ -78,7 +81,8 @@ pub trait Machine {
     ) -> Result<Option<Self::Frame>, AllocError>
         ensures { FrameEnters result frame.old frame.new ((machine self.now).stand frame.old) };
 
-    /// What a frame does by itself, where it stands elsewhere. What it prints is appended to `out`.
+    /// What a frame does by itself, if it is elsewhere. What it prints is appended to `out`. It never waits, and it changes no
+    /// channel (`channels`): all that may wait is the same for all machines.
     ///
     /// # Errors
     ///
@@ -94,7 +98,8 @@ pub trait Machine {
             out.old.items out.new.items ((machine self.now).act (memory_view memory.old) frame.old) }
         ensures channels { SameChannels (memory_view memory.old) (memory_view memory.new) };
 
-    /// A caller continues where the callee has returned, with a value or without one.
+    /// A caller continues when the callee has returned, with a value or without one. It may need memory, so it is called before
+    /// the callee's frame is dropped.
     ///
     /// # Errors
     ///

@@ -28,7 +28,7 @@ fn put(alloc: Global, memory: &mut Memory, object: Object) -> Result<(), AllocEr
     match memory.block_mut(number) {
         Some(block) => block.put(slot, object),
         None => {
-            // The block before is no longer the newest one.
+            // The block before is no longer the newest one, which is kept even if it is empty.
             memory.drop_if_empty(number.saturating_sub(1));
             let mut block = Block::new(alloc)?;
             block.put(slot, object)?;
@@ -45,10 +45,12 @@ fn make(alloc: Global, memory: &mut Memory, object: Object) -> Result<Effect, Al
         (made (memory_view memory.old) (object_view object)) }
 {
     let number = memory.made;
+    // Memory runs out long before 2^64 objects; the test is here since no clause bounds how many are made.
     let Some(more) = number.checked_add(1) else {
         return Err(AllocError);
     };
     put(alloc, memory, object)?;
+    // Only when the object is there: after a failure it does not count.
     memory.made = more;
     Ok(Effect::Gives(Value::Object(number)))
 }
@@ -96,7 +98,7 @@ pub(crate) fn new_slice(
     make(alloc, memory, Object::Slice(cells))
 }
 
-/// A channel of this capacity. Memory for what is sent is taken as it is sent.
+/// A channel of this capacity. Memory for what is sent is taken as it is sent, since a capacity may be larger than the memory.
 pub(crate) fn new_channel(
     alloc: Global,
     memory: &mut Memory,

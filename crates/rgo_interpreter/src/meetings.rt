@@ -1,4 +1,5 @@
-//! Who meets: a receiver and a sender that stand at one open channel without a buffer.
+//! Who meets: a receiver and a sender at one open channel without a buffer. The search asks each goroutine once, with a table of the
+//! channels at which someone receives: a search without memory takes the square of the number of goroutines.
 
 ghost use Rattle.std.specs.Prelude.{◌≡◌, None, length, nat_eq, IfOk};
 ghost use Rattle.std.specs.HashMap.{get};
@@ -43,7 +44,8 @@ fn sender_at<M: Machine>(machine: &M, state: &State<M::Frame>, g: usize) -> Opti
     }
 }
 
-/// A goroutine that receives, for each channel at which one does.
+/// A goroutine that receives, for each channel at which one does. One for each is enough: whether it meets a sender depends on the
+/// channel alone.
 fn receivers<M: Machine>(
     alloc: Global,
     machine: &M,
@@ -81,6 +83,7 @@ fn partner_of<M: Machine>(
     let Some(receiver) = receivers.get(&channel) else {
         return None;
     };
+    // Both are at this channel; whether it is open and has no buffer is left to be asked.
     let place = Value::Object(channel);
     match meets_at(&state.memory, place, place) {
         true => Some(*receiver),

@@ -18,12 +18,14 @@ use rgo_typed::Variable;
 use std::alloc::{AllocError, Global};
 
 /// The objects that were made, each by its number in the order of making, and the package
-/// variables. An object can be taken away: then what it held is given back, and it reads as a struct
-/// without fields.
+/// variables. An object can be taken away: then its memory is returned, and it reads as a struct
+/// without fields. Numbers are not used again, so that values are those of the definition, whose heap never frees.
 #[derive(Drop)]
 pub struct Memory {
-    /// The objects, by blocks of consecutive numbers. A block without objects is not kept, unless it is the newest one.
+    /// The objects, by blocks of consecutive numbers. A block without objects is not kept, unless it is the newest one: so the
+    /// memory of a run follows the objects that are there, and not those that were made.
     pub(crate) blocks: IndexMap<usize, Block>,
+    /// How many objects were made: the next one has this number.
     pub(crate) made: usize,
     pub variables: Vec<Value>,
     /// Lists that frames no longer need: new frames take their variables from here, so that a call
@@ -43,7 +45,7 @@ impl Memory {
     ///
     /// # Errors
     ///
-    /// Where there is no memory for the variables.
+    /// On allocation failure.
     pub fn new(alloc: Global, variables: &[Variable]) -> Result<Memory, AllocError>
         ensures { IfOk result (λ memory. memory_view memory ≡ opening variables.now) }
     {
@@ -63,8 +65,8 @@ impl Memory {
         self.made
     }
 
-    /// Takes an object away, and gives back the memory that it held. Its number is not used again.
-    /// Nothing happens where it was taken away before, or never made.
+    /// Takes an object away, and returns its memory. Its number is not used again. Nothing happens if it was taken away
+    /// before, or never made. Called when a region is removed, for each of its objects.
     pub fn take_away(&mut self, n: usize)
         ensures { memory_view self.new ≡ emptied (memory_view self.old) n }
     {
@@ -104,8 +106,9 @@ impl Memory {
         }
     }
 
-    /// The index of the block of a number, where it can be told without a lookup: if the blocks that were removed are all
-    /// older, or all newer.
+    /// The index of the block of a number, if it can be found without a lookup: if the blocks that were removed are all
+    /// older, or all newer. Both are guesses, and `is_at` tests each. A walk over a list takes a quarter longer if each access
+    /// searches the map.
     #[inline(always)]
     fn index_of(&self, number: usize) -> Option<usize>
         ensures { IfSome result (λ index. IsBlockAt self.now index number) }
@@ -145,7 +148,8 @@ impl Memory {
         }
     }
 
-    /// The object of a number, `None` where it was taken away or never made.
+    /// The object of a number, `None` if it was taken away or never made. The test of `made` is needed by the clause: the memory that
+    /// clauses see ends there, and no invariant states that blocks do, too.
     #[inline(always)]
     pub(crate) fn object(&self, n: usize) -> Option<&Object>
         ensures { object_at (memory_view self.now) n ≡ object_view_or_empty (option_copied result) }

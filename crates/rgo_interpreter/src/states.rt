@@ -11,7 +11,8 @@ use rgo_machine::End;
 use std::alloc::{AllocError, Global};
 use std::marker::Model;
 
-/// A goroutine: its frames, the newest last; none where it has returned.
+/// A goroutine: its frames, the newest last; none if it has returned. Clauses see the newest first, as the definition has it; here
+/// it is at the end, where a list grows.
 #[derive(Drop)]
 pub struct Goroutine<F> {
     pub frames: Vec<F>,
@@ -28,7 +29,7 @@ impl<F> Model for Goroutine<F> {
     ghost view = { λ g. reverse g.frames.items };
 }
 
-/// The state of a run.
+/// The state of a run. A goroutine keeps its number when it has returned, so the list only grows.
 #[derive(Drop)]
 pub struct State<F> {
     pub memory: Memory,
@@ -88,7 +89,7 @@ impl<F: Drop> State<F> {
         &self.printed
     }
 
-    /// Forgets what was printed.
+    /// Forgets what was printed: a driver calls it when it has written the print, which would otherwise be kept for the whole run.
     pub fn clear_printed(&mut self)
         ensures { self.new ≡ record self.old { printed = [] } }
     {
@@ -96,7 +97,7 @@ impl<F: Drop> State<F> {
     }
 }
 
-/// Where the newest frame of a goroutine stands; `None` where it has returned.
+/// Where the newest frame of a goroutine is; `None` if it has returned.
 fn newest_stand<M: Machine>(machine: &M, goroutine: &Goroutine<M::Frame>) -> Option<Stand>
     ensures { result ≡ acting.newest_stand (M.machine machine.now) goroutine.now }
 {
@@ -106,7 +107,7 @@ fn newest_stand<M: Machine>(machine: &M, goroutine: &Goroutine<M::Frame>) -> Opt
     }
 }
 
-/// Where a goroutine stands: `None` where it has returned, or does not exist.
+/// Where a goroutine is: `None` if it has returned, or does not exist. Older frames do not count: they wait for the newest.
 pub fn standing<M: Machine>(machine: &M, state: &State<M::Frame>, g: usize) -> Option<Stand>
     ensures { result ≡ acting.standing (M.machine machine.now) state.now g }
 {

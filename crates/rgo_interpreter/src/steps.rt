@@ -20,11 +20,11 @@ use std::alloc::{AllocError, Global};
 /// What a step did.
 #[derive(Clone, Copy, Debug, PartialEq, Eq)]
 pub enum Stepped {
-    /// The run goes on.
+    /// The run continues.
     Advanced,
     /// The run ended by this step.
     Ended(End),
-    /// There is no such step; nothing changed.
+    /// The pick has no step in this state; nothing changed. A pick may name any numbers.
     NotEnabled,
 }
 
@@ -33,11 +33,15 @@ fn is_start(stand: Stand) -> bool
 {
     match stand {
         Stand::Start => true,
-        _ => false,
+        Stand::Receive { .. }
+        | Stand::Send { .. }
+        | Stand::Close { .. }
+        | Stand::Call
+        | Stand::Elsewhere => false,
     }
 }
 
-/// A goroutine starts another.
+/// A goroutine starts another. Apart from the other steps, which one goroutine takes alone: the list of goroutines grows here.
 fn start<M: Machine>(
     alloc: Global,
     machine: &M,
@@ -50,6 +54,7 @@ fn start<M: Machine>(
     ensures channels { ChangesAt result state.old.memory state.new.memory }
     ensures print { KeepsPrint result state.old.printed state.new.printed }
 {
+    // The room comes first: when the goroutine has continued after its start, the new one must not be lost.
     state.goroutines.reserve(1)?;
     let Some(goroutine) = state.goroutines.get_mut(g) else {
         return Ok(Happened::Waits);
@@ -63,7 +68,7 @@ fn start<M: Machine>(
     }
 }
 
-/// One step of a goroutine alone, whose newest frame is there.
+/// One step of a goroutine alone, whose newest frame is at `stand`: callers have asked for it already, to test limits.
 pub(crate) fn step_alone<M: Machine>(
     alloc: Global,
     machine: &M,
@@ -104,7 +109,14 @@ pub(crate) fn receives_at(stand: Option<Stand>) -> Option<Value>
 {
     match stand {
         Some(Stand::Receive { channel, blank: _ }) => Some(channel),
-        _ => None,
+        Some(
+            Stand::Send { .. }
+            | Stand::Close { .. }
+            | Stand::Call
+            | Stand::Start
+            | Stand::Elsewhere,
+        )
+        | None => None,
     }
 }
 
@@ -120,7 +132,14 @@ pub(crate) fn sends_at(stand: Option<Stand>) -> Option<(Value, Value)>
                 place: _,
             },
         ) => Some((channel, value)),
-        _ => None,
+        Some(
+            Stand::Receive { .. }
+            | Stand::Close { .. }
+            | Stand::Call
+            | Stand::Start
+            | Stand::Elsewhere,
+        )
+        | None => None,
     }
 }
 
@@ -160,6 +179,7 @@ fn meet<M: Machine>(
     if !meets_at(&state.memory, channel, other) {
         return false;
     }
+    // Both continue here or neither: all tests come before, and `pass` cannot fail.
     pass_at(machine, &mut state.goroutines, receiver, value);
     pass_at(machine, &mut state.goroutines, sender, Value::Nil);
     true

@@ -1,4 +1,5 @@
-//! Turns: steps of one goroutine in a row, which is how runs are driven.
+//! Turns: steps of one goroutine in a row, which is how runs are driven. A turn reports why it is over, so that its driver asks only
+//! when something may have changed for other goroutines.
 
 ghost use Rattle.std.specs.Prelude.{◌≡◌, true, None};
 ghost use Rattle.rgo_machine.specs.Limits.{is_within};
@@ -21,15 +22,15 @@ pub enum TurnEnd {
     Waits,
     /// It has printed.
     Printed,
-    /// The object of this number may be a channel that changed.
+    /// The object of this number may be a channel that changed, so goroutines that wait at it may have a step now.
     Operated(usize),
     /// The run ended by its last step.
     Ended(End),
-    /// The goroutine has 100,000 frames, and stands before a call.
+    /// The goroutine has 100,000 frames, and is before a call.
     TooDeep,
-    /// There are as many goroutines as there may be, and this one stands before the start of another.
+    /// There are as many goroutines as there may be, and this one is before the start of another.
     Full,
-    /// It stands before what its machine has no room for.
+    /// It is before a step for which its machine has no room. Only machines whose objects are in regions have such a limit.
     NoRoom(Shortage),
     /// Memory ran out.
     NoMemory,
@@ -52,14 +53,20 @@ fn depth_of<F>(state: &State<F>, g: usize) -> usize
     }
 }
 
-/// The limit that a goroutine at this point meets, if any.
+/// The limit that a goroutine at this point meets, if any. Tested before the step: a call or a start cannot be taken back, and the
+/// state that ends the run is to be within the limits.
 fn limit_at<F>(state: &State<F>, limits: Limits, g: usize, stand: Stand) -> Option<TurnEnd>
     ensures { result ≡ turning.limit_at limits state.now g stand }
 {
     match stand {
         Stand::Call if depth_of(state, g) >= DEEPEST => Some(TurnEnd::TooDeep),
         Stand::Start if state.goroutines.len() >= limits.goroutines.max(1) => Some(TurnEnd::Full),
-        _ => None,
+        Stand::Receive { .. }
+        | Stand::Send { .. }
+        | Stand::Close { .. }
+        | Stand::Call
+        | Stand::Start
+        | Stand::Elsewhere => None,
     }
 }
 

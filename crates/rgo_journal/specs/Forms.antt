@@ -1,4 +1,4 @@
--- The first line that has no form in a journal.
+-- The first line that has no form in a journal. What is rejected is defined as fully as what is read, so that a refusal is a claim, too.
 use Rattle.std.specs.Prelude.{◌≡◌, ◌⊎◌, ◌+◌, ℕ, List, ◌++◌, length, All, ⊤}
 use Rattle.rgo_journal.specs.declared.errors.PicksError.{PicksError}
 use Rattle.rgo_journal.specs.declared.errors.PicksError.TheVariants as error

@@ -12,7 +12,8 @@ use Rattle.rgo_journal.specs.Picks.{journal_pick}
 use Rattle.rgo_journal.specs.Replays.{ReplayEndsAs, TakesPicks}
 use Rattle.rgo_journal.specs.Text.{PickFits, IsJournal, journal}
 
--- What was printed is read: a journal, whatever follows it, has its picks and no others, and no line of it lacks a form.
+-- What was printed is read: a journal, whatever follows it, has its picks and no others, and no line of it lacks a form. So a text is
+-- either read in one way or rejected at one line, and a journal determines its picks.
 pub record ReadBack : Type 0 where
   pub is : (picks : List TacPick) (text : List ℕ) → All PickFits picks
       → IsJournal (journal picks ++ text) picks (length (journal picks))
@@ -26,7 +27,7 @@ abbrev pub SameSteps : Type 0
 SameSteps = (code : Tac) (picks : List Pick) (s : TacState) → Leads (tac_step code) (tac_start code) picks s
     → TakesPicks code (map journal_pick picks) s
 
--- an end that is neither a failed write nor an allocation failure
+-- an end that is neither a failed write nor an allocation failure, which may come at any pick
 abbrev pub IsFaultlessEnd : ReplayEnd → Type 0
 IsFaultlessEnd WriteFault = ⊥
 IsFaultlessEnd NoMemory = ⊥

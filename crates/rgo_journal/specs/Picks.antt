@@ -8,7 +8,8 @@ use Rattle.rgo_tac.specs.Tac.{TacState, tac_step}
 use Rattle.rgo_journal.specs.declared.picks.TacPick.{TacPick}
 use Rattle.rgo_journal.specs.declared.picks.TacPick.TheVariants.{One, Meet, Case, CaseMeet}
 
--- The machine's pick; none for a case of a `select`, which no program of this subset has.
+-- The machine's pick; none for a case of a `select`, which no program of this subset has. Such a line is well formed, and its pick has no
+-- step, like that of a goroutine that does not exist.
 abbrev pub machine_pick : TacPick → Option Pick
 machine_pick (One g) = Some (machine.One g)
 machine_pick (Meet r s) = Some (machine.Meet r s)

@@ -1,4 +1,5 @@
--- How the line of a pick is read: its word, and its numbers one after the other.
+-- How the line of a pick is read: its word, and its numbers one after the other. A tool of the proof: the meaning of journals is that of
+-- Text, by printing, and the law `ReadBack` relates the two.
 use Rattle.std.specs.Prelude.{ℕ, ◌==◌, nat_lt, if◌then◌else◌, List, length, take, drop, Option, Some, None, codes}
 use Rattle.std.specs.List.{position_or_len, before_first, after_first}
 use Rattle.std.specs.Option.{option_map}
@@ -43,7 +44,7 @@ read_case bytes = option_map (λ a. (Case a.0 a.1, a.2)) (two_numbers bytes)
 abbrev pub read_case_meet : List ℕ → Option (TacPick × List ℕ)
 read_case_meet bytes = option_map (λ a. (CaseMeet a.0 a.1 a.2, a.3)) (three_numbers bytes)
 
--- what is read after a front, or what is read where that is missing
+-- what is read after a front, or what is read if that is missing
 abbrev pub read_after_front : {A : Type 0} → Option (List ℕ) → (List ℕ → Option A) → Option A → Option A
 read_after_front None read other = other
 read_after_front (Some rest) read other = read rest

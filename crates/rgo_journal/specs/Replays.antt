@@ -30,18 +30,18 @@ ReplayEndsAs code picks s (Foreign index) =
 ReplayEndsAs code picks s WriteFault = (n : ℕ) × TakesFirstPicks code picks n s
 ReplayEndsAs code picks s NoMemory = (n : ℕ) × TakesFirstPicks code picks n s
 
--- the sink took what was printed; the first bytes of it, some or all, where a write failed
+-- the sink took what was printed; the first bytes of it, some or all, if a write failed
 abbrev pub ReplayPrints : ReplayEnd → List ℕ → (old new : Option (List ℕ)) → Type 0
 ReplayPrints WriteFault print old new = (n : ℕ) × Appends old new (take n print)
 ReplayPrints _ print old new = Appends old new print
 
--- the picks were replayed so, and what they printed was given out
+-- the picks were replayed so, and what they printed was written, after the last of them
 pub record Replays (code : Tac) (picks : List TacPick) (end : ReplayEnd) (old new : Option (List ℕ)) : Type 0 where
   pub state : TacState
   pub ends : ReplayEndsAs code picks state end
   pub gives : ReplayPrints end state.printed old new
 
--- one pick was taken, or has no step; where it has none, and on allocation failure, nothing changed
+-- one pick was taken, or has no step; if it has none, and on allocation failure, nothing changed
 abbrev pub Takes1 : Result Bool AllocError → (before after : TacState) → Option TacState → Type 0
 Takes1 (Ok true) before after next = next ≡ Some after
 Takes1 (Ok false) before after next = (next ≡ None) × (after ≡ before)

@@ -6,7 +6,7 @@ ghost use Rattle.rgo_journal.specs.declared.errors.PicksError.TheVariants.{NoMem
 use std::alloc::{AllocError, AllocFailed};
 use thiserror::Error;
 
-/// The number of the first line that has no form in a journal, counted from 1. Where the text ends before the line `text`,
+/// The number of the first line that has no form in a journal, counted from 1. If the text ends before the line `text`,
 /// that is what follows its last newline.
 #[derive(Clone, Copy, Debug, PartialEq, Eq)]
 pub struct PicksText {

@@ -1,4 +1,5 @@
-//! The picks of a journal.
+//! The picks of a journal. A type of its own, since its format has picks that the machine does not have: it does not depend on
+//! which part of the language is there.
 
 ghost use Rattle.std.specs.Prelude.{◌≡◌, MatchOption};
 ghost use Rattle.rgo_code_words.specs.Worded.{IsSmallNumber};
@@ -21,7 +22,7 @@ pub enum TacPick {
     CaseMeet(u32, u32, u32),
 }
 
-/// The pick of the machine that this is; none for a case of a `select`, which no program has yet.
+/// The pick of the machine that this is; none for a case of a `select`, which no program of the subset has. Such a pick has no step.
 pub fn machine_pick(pick: TacPick) -> Option<Pick>
     ensures { result ≡ spec.machine_pick pick }
 {
@@ -32,7 +33,7 @@ pub fn machine_pick(pick: TacPick) -> Option<Pick>
     }
 }
 
-/// The number, if it has 32 bits.
+/// The number, if it has 32 bits. A machine's goroutines have numbers of a machine word, and no clause bounds how many there are.
 fn small(n: usize) -> Option<u32>
     ensures { MatchOption result (IsSmallNumber n → ⊥) (λ m. (m ≡ n) × IsSmallNumber n) }
 {
@@ -53,7 +54,7 @@ fn small_meeting(receiver: usize, sender: usize) -> Option<TacPick>
     }
 }
 
-/// A pick of the machine as it is in a journal; none where a number does not have 32 bits.
+/// A pick of the machine as it is in a journal; none if a number does not have 32 bits.
 pub fn journal_pick(pick: Pick) -> Option<TacPick>
     ensures { MatchOption result (IsSmallPick pick → ⊥) (λ p. (p ≡ spec.journal_pick pick) × IsSmallPick pick) }
 {

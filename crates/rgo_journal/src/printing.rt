@@ -31,7 +31,7 @@ fn print_two(out: &mut Vec<u8>, word: &[u8], a: u32, b: u32) -> Result<(), Alloc
     print_number(out, b, b"\n")
 }
 
-/// Appends the line of a pick.
+/// Appends the line of a pick. On an error some of it may be appended: a journal that does not fit in memory is dropped whole.
 ///
 /// # Errors
 ///

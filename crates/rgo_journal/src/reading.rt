@@ -1,4 +1,5 @@
-//! Journals, read line by line.
+//! Journals, read line by line. Each line has one form only, without leading zeros or blanks, so that a text has one journal at most
+//! and printing is the inverse of reading.
 
 ghost use Rattle.std.specs.Prelude.{◌≡◌, ◌<◌, length, MatchResult};
 ghost use Rattle.rgo_code_words.specs.Readers as words;
@@ -20,7 +21,7 @@ pub type PickList = Row<TacPick>;
 #[derive(Drop)]
 pub struct Picks {
     pub list: PickList,
-    /// How many bytes it takes: where what follows it begins.
+    /// How many bytes it takes: the text that it belongs to begins there, and places are counted from there.
     pub rest: usize,
 }
 
@@ -35,7 +36,7 @@ fn after<'t>(bytes: &'t [u8], front: &[u8]) -> Option<&'t [u8]>
     }
 }
 
-/// The number before the first such byte, and what follows that byte; none where the byte is missing, since a line without its
+/// The number before the first such byte, and what follows that byte; none if the byte is missing, since a line without its
 /// newline has no form.
 fn number_to<'t>(bytes: &'t [u8], byte: u8) -> Option<(u32, &'t [u8])>
     ensures { seen_one result ≡ spec.number_to byte bytes.now }
@@ -143,6 +144,7 @@ pub fn read_picks(alloc: Global, bytes: &[u8]) -> Result<Picks, PicksError>
     let mut picks = Vec::new(alloc);
     let mut rest = lines;
     'lines: loop {
+        // The last line first: no pick's line begins like it, so the order does not matter for what is read.
         if let Some(text) = after(rest, b"text\n") {
             return Ok(Picks {
                 list: Row::new(picks),
@@ -156,6 +158,7 @@ pub fn read_picks(alloc: Global, bytes: &[u8]) -> Result<Picks, PicksError>
             }
             None => {
                 return Err(PicksError::Refused(PicksText {
+                    // Lines count from 1, and the first line is before those of the picks.
                     line: picks.len() + 2,
                 }));
             }

@@ -47,7 +47,8 @@ fn take_pick(alloc: Global, state: &mut TacState<'_>, pick: TacPick) -> Result<b
     }
 }
 
-/// How a replay ended whose picks were all taken, by its last state.
+/// How a replay ended whose picks were all taken, by its last state. Asked once, after the last pick: earlier states have a step, the
+/// next pick.
 fn end_of(alloc: Global, state: &TacState<'_>, picks: &[TacPick]) -> ReplayEnd
     requires { TakesPicks state.now.code.now picks.now state.now.state }
     ensures ends { ReplayEndsAs state.now.code.now picks.now state.now.state result }
@@ -80,7 +81,7 @@ fn take_picks(alloc: Global, state: &mut TacState<'_>, picks: &[TacPick]) -> Rep
 }
 
 /// Runs code by these picks: takes them one after the other, up to the first that has no step, and writes what they print
-/// to `out`, after the last. Nothing is written where the run cannot begin for want of memory.
+/// to `out`, after the last, in one write. Nothing is written if the run cannot begin for want of memory.
 pub fn replay<K: Sink>(alloc: Global, code: &Tac, picks: &[TacPick], out: &mut K) -> ReplayEnd
     ensures replays { Replays code.now picks.now result (K.contents out.old) (K.contents out.new) }
     ensures fault { result ≡ WriteFault → Rose (K.faults out.old) (K.faults out.new) }

@@ -11,7 +11,7 @@ use Rattle.rgo_memory.specs.Effects.{Effect, Does}
 use Rattle.rgo_memory.specs.Effects as effect
 use Rattle.rgo_machine.specs.Machines.{Act, Moves, Traps, Stand, AtReceive, AtSend, AtClose, Elsewhere}
 
--- the type of an action that gives no value
+-- the type of an action that returns no value
 abbrev pub no_type : «Type»
 no_type = record { layers = []; base = Int }
 
@@ -21,12 +21,12 @@ is_true (value.Bool b) = b
 is_true _ = false
 
 module _ {F : Type 0} where
-  -- a frame continues with the value that an action gives, or traps there
+  -- a frame continues with the value that an action returns, or traps there
   abbrev pub effected : (Value → F) → (place : ℕ) → Effect → Act F
   effected next place (Does m v) = Moves m (next v)
   effected next place (effect.Traps trap) = Traps trap place
 
-  -- before an action on these values, where it is an operation on a channel
+  -- before an action on these values, if it is an operation on a channel; a wrong number of values is elsewhere, where nothing is done
   abbrev pub at_channel : Action → (blank : Value) → (place : ℕ) → (Value → F) → List Value → Stand F
   at_channel action.Recv blank place go_on (channel ∷ []) = AtReceive channel blank go_on
   at_channel action.Send blank place go_on (channel ∷ v ∷ []) = AtSend channel v place (go_on value.Nil)

@@ -6,6 +6,7 @@ use Rattle.rgo_machine.specs.Machines.{Machine, State, Stand, AtReceive, AtSend,
 use Rattle.rgo_machine.specs.Runs.{IsBlocked}
 
 module _ {F : Type 0} where
+  -- The first part is needed: after its end a run has no step either.
   abbrev pub IsDeadlock : Machine F → State F → Type 0
   IsDeadlock machine s = (s.ended ≡ None) × IsBlocked (step_by machine) s
 
@@ -20,7 +21,8 @@ module _ {F : Type 0} where
   HasReturnedOrWaits machine m [] = Unit {0}
   HasReturnedOrWaits machine m (f ∷ callers) = WaitsAt m (machine.stand f)
 
-  -- In a deadlock every goroutine has returned or waits at a channel.
+  -- In a deadlock every goroutine has returned or waits at a channel. The definition above says only that nothing can step; this law is
+  -- what a reader expects of it.
   abbrev pub DeadlocksWait : Machine F → Type 0
   DeadlocksWait machine =
       (s : State F) → IsDeadlock machine s

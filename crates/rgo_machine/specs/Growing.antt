@@ -1,4 +1,4 @@
--- The law that a run's print only grows.
+-- The law that a run's print only grows: what was written early was not written too early.
 use Rattle.std.specs.Prelude.{◌≡◌, ℕ, List, ◌++◌}
 use Rattle.rgo_machine.specs.declared.picks.Pick.{Pick}
 use Rattle.rgo_machine.specs.Machines.{Machine, State, step_by}

@@ -1,5 +1,6 @@
 -- Machines: goroutines over one memory, each a stack of frames. A machine says what a frame does by itself, where it
--- stands, and how a caller goes on; what goroutines do to each other is the same for all machines and is said here.
+-- is, and how a caller continues; what goroutines do to each other is the same for all machines and is defined here. So the meaning of
+-- channels, calls and starts is read once, and machines differ in their frames only.
 use Rattle.std.specs.Prelude.{ℕ, zero, suc, ◌==◌, List, [], ◌∷◌, ◌++◌, Option, Some, None, slice_get, slice_set}
 use Rattle.std.specs.Prelude.{if◌then◌else◌, option_and_then}
 use Rattle.std.specs.Option.{option_map}
@@ -14,7 +15,7 @@ use Rattle.rgo_machine.specs.declared.picks.Pick.TheVariants.{One, Meet}
 use Rattle.rgo_machine.specs.declared.picks.End.{End}
 use Rattle.rgo_machine.specs.declared.picks.End.TheVariants as the_end
 
--- what a frame does by itself
+-- What a frame does by itself. There is no case in which it waits: all that may wait is a `Stand`.
 pub data Act (F : Type 0) : Type 0 where
   -- it continues, over this memory
   Moves : (memory : Memory) (frame : F) → Act F
@@ -25,9 +26,10 @@ pub data Act (F : Type 0) : Type 0 where
   -- it traps, at a place of the text
   Traps : (trap : Trap) (place : ℕ) → Act F
 
--- where a frame stands, and how it continues from there
+-- Where a frame is, and how it continues from there. A frame shows what it wants of others, and does not do it: so two goroutines can do
+-- it in one step.
 pub data Stand (F : Type 0) : Type 0 where
-  -- before a receive; a closed channel gives `blank`
+  -- before a receive; a closed channel returns `blank`, since the zero depends on a type that the machine does not know
   AtReceive : (channel blank : Value) (go_on : Value → F) → Stand F
   -- before a send, or a close, at a place of the text
   AtSend : (channel value : Value) (place : ℕ) (go_on : F) → Stand F
@@ -38,8 +40,9 @@ pub data Stand (F : Type 0) : Type 0 where
   -- before what it does by itself
   Elsewhere : Stand F
 
+-- What is particular to one machine, over its frames F; what goroutines do to each other is defined below for all of them.
 pub record Machine (F : Type 0) : Type 0 where
-  -- what a frame does by itself, where it stands elsewhere
+  -- what a frame does by itself, if it is elsewhere
   pub act : Memory → F → Act F
   pub stand : F → Stand F
   -- a caller, when the callee has returned
@@ -53,7 +56,7 @@ pub record State (F : Type 0) : Type 0 where
   pub printed : List ℕ
   pub ended : Option End
 
--- the run ends where `main` has returned
+-- the run ends when `main` has returned, goroutine 0, whatever the others still have to do
 abbrev pub end_of_return : ℕ → Option End
 end_of_return zero = Some the_end.Exit
 end_of_return (suc g) = None
@@ -63,9 +66,11 @@ module _ {F : Type 0} where
   abbrev pub start_state : Memory → List F → State F
   start_state memory frames = record { memory = memory; goroutines = frames ∷ []; printed = []; ended = None }
 
+  -- goroutine g has these frames, and all else is as it was
   abbrev pub with_frames : State F → ℕ → List F → State F
   with_frames s g frames = record s { goroutines = slice_set s.goroutines g frames }
 
+  -- a trap changes nothing but the end
   abbrev pub trapped : State F → Trap → ℕ → State F
   trapped s trap place = record s { ended = Some (the_end.Trap trap place) }
 
@@ -86,7 +91,8 @@ module _ {F : Type 0} where
   operated s g callers go_on place (Does m v) = record (with_frames s g (go_on v ∷ callers)) { memory = m }
   operated s g callers go_on place (effect.Traps trap) = trapped s trap place
 
-  -- the state after the step of a goroutine whose newest frame stands there; none where it waits
+  -- The state after the step of a goroutine whose newest frame is there; none if it waits. Only a receive and a send can wait. The place
+  -- of a receive is 0, since a receive never traps.
   abbrev pub stepped : Machine F → State F → ℕ → F → List F → Stand F → Option (State F)
   stepped machine s g f callers (AtReceive channel blank go_on) =
       option_map (operated s g callers go_on 0) (receive s.memory channel blank)
@@ -104,27 +110,32 @@ module _ {F : Type 0} where
   alone machine s g [] = None
   alone machine s g (f ∷ callers) = stepped machine s g f callers (machine.stand f)
 
-  -- both sides continue where they stand at one open channel without a buffer, the receiver with the value
+  -- Both sides continue if they are at one open channel without a buffer, the receiver with the value. It is one step of both: with two
+  -- there would be a state in which neither has the value.
   abbrev pub met : State F → ℕ → ℕ → List F → List F → Stand F → Stand F → Option (State F)
   met s r t receivers senders (AtReceive c blank receiver) (AtSend d value place sender) =
       if meets_at s.memory c d
       then Some (with_frames (with_frames s r (receiver value ∷ receivers)) t (sender ∷ senders)) else None
   met s r t receivers senders _ _ = None
 
+  -- the same by the frames of receiver r and sender t, whose newest frames meet; a goroutine that has returned meets nobody
   abbrev pub met_by : Machine F → State F → ℕ → ℕ → List F → List F → Option (State F)
   met_by machine s r t [] senders = None
   met_by machine s r t (f ∷ receivers) [] = None
   met_by machine s r t (f ∷ receivers) (h ∷ senders) = met s r t receivers senders (machine.stand f) (machine.stand h)
 
+  -- the same by the numbers of the two; none if one of them is not that of a goroutine
   abbrev pub meet : Machine F → State F → ℕ → ℕ → Option (State F)
   meet machine s r t =
       option_and_then (λ f. option_and_then (met_by machine s r t f) (slice_get s.goroutines t))
       (slice_get s.goroutines r)
 
+  -- the state after a step of one goroutine, or a meeting of two; none if there is no such step: a goroutine never meets itself
   abbrev pub picked : Machine F → State F → Pick → Option (State F)
   picked machine s (One g) = option_and_then (alone machine s g) (slice_get s.goroutines g)
   picked machine s (Meet r t) = if r == t then None else meet machine s r t
 
+  -- no state follows the end of a run
   abbrev pub unless_ended : Option End → Option (State F) → Option (State F)
   unless_ended None next = next
   unless_ended (Some e) next = None

@@ -2,7 +2,8 @@
 use Rattle.std.specs.Prelude.{◌≡◌, List, [], ◌∷◌, Option, Some, None, option_and_then}
 
 module _ {S E : Type 0} where
-  -- the state behind these events, if each has a step in its turn
+  -- The state after these events, if each has a step in its turn. The events are all that is left open: which of them come is not said, so
+  -- a law about all runs is about every schedule.
   abbrev pub run : (S → E → Option S) → S → List E → Option S
   run step s [] = Some s
   run step s (e ∷ es) = option_and_then (λ t. run step t es) (step s e)

@@ -1,14 +1,15 @@
 //! What limits a run.
 
-/// What limits a run: its steps, looked at after each round, and how many goroutines there are, `main` and those that
-/// have returned included. There is always `main`.
+/// What limits a run: its steps, tested after each round, and its goroutines, tested before each start. `main` and the
+/// goroutines that have returned count, so that the limit bounds the memory of a run. There is always `main`, so a limit of 0
+/// goroutines counts as 1.
 #[derive(Clone, Copy, Debug, PartialEq, Eq)]
 pub struct Limits {
     pub steps: u64,
     pub goroutines: usize,
 }
 
-/// The most frames of a goroutine.
+/// The most frames of a goroutine: a recursion that never ends stops here, and not when the memory of the machine is used up.
 pub const DEEPEST: usize = 100_000;
 
 /// How much room the regions of a run have.
@@ -29,6 +30,6 @@ pub enum Shortage {
     Pages,
     /// There are as many regions as there may be, and another one is to be created.
     Regions,
-    /// An object has more data pages than the largest one that is allowed.
+    /// An object would need more data pages than the largest object may have.
     ObjectSize,
 }

@@ -8,7 +8,8 @@ use rgo_memory::{Value, write_value};
 use rgo_typed::Piece;
 use std::alloc::AllocError;
 
-/// Appends the operands in order, each followed by a space. On allocation failure some of it is appended.
+/// Appends the operands in order, each followed by a space: the one after the last operand is taken off again by the caller, which is
+/// simpler than a test for the last one here. On allocation failure some of it is appended.
 #[tactic(auto, using(crate::proofs::Spaces::begun))]
 fn write_operands(out: &mut Vec<u8>, pieces: &[Piece], values: &[Value]) -> Result<(), AllocError>
     ensures operands { OnOk result (out.new.items ≡ out.old.items ++ spaced (spec.printed_operands pieces.now values.now)) }
@@ -22,6 +23,7 @@ fn write_operands(out: &mut Vec<u8>, pieces: &[Piece], values: &[Value]) -> Resu
                 out.push(b' ')?;
             }
             Piece::Value => {
+                // A piece without a value appends nothing, as in the definition; a typed tree has a value for each.
                 if let Some((value, others)) = rest.split_first() {
                     write_value(out, *value)?;
                     out.push(b' ')?;
@@ -41,6 +43,7 @@ fn append_line(out: &mut Vec<u8>, pieces: &[Piece], values: &[Value]) -> Result<
 {
     let start = out.len();
     write_operands(out, pieces, values)?;
+    // Without operands there is no space to take off.
     out.truncate(out.len().saturating_sub(1).max(start));
     out.push(b'\n')?;
     Ok(())
@@ -59,6 +62,7 @@ pub fn write_line(out: &mut Vec<u8>, pieces: &[Piece], values: &[Value]) -> Resu
     match append_line(out, pieces, values) {
         Ok(()) => Ok(()),
         Err(error) => {
+            // The line is taken back whole: what a run has printed is always the print of one of its states.
             out.truncate(start);
             Err(error)
         }

@@ -1,4 +1,5 @@
--- Small programs and their runs, to be worked out by computation.
+-- Small programs and their runs, worked out by computation: a reader can compare the definitions with what Go does. Each is there for one
+-- order or one trap that is easily defined wrongly.
 use Rattle.std.specs.Prelude.{◌≡◌, ℕ, zero, suc, Bool, true, false, pos, List, [], ◌∷◌, ◌++◌, length, Option, Some}
 use Rattle.std.specs.Prelude.{None, codes, decimal, nat_le, slice_get, option_and_then}
 use Rattle.rgo_ast.specs.declared.ops.BinaryOp.TheVariants.{Add, Div}
@@ -93,7 +94,7 @@ late_nil_program =
 
 -- ---- runs
 
--- a goroutine alone, as long as it has a step and the test fails, so many steps at most
+-- a goroutine alone, as long as it has a step and the test fails, up to n steps: a computation needs a bound
 abbrev pub going_on : Bool → SourceState → Option SourceState → (SourceState → SourceState) → SourceState
 going_on true s next more = s
 going_on false s None more = s
@@ -126,7 +127,7 @@ main_alone p = print_and_end (alone_until p never 0 100 (source_start p))
 abbrev pub main_after_meeting : Option SourceState → Option (List ℕ × Option End)
 main_after_meeting next = option_and_then (λ s. Some (print_and_end (alone_until rendezvous_program never 0 100 s))) next
 
--- both wait, they meet, and `main` goes on
+-- both wait, they meet, and `main` continues
 abbrev pub meeting_met : Option (List ℕ × Option End)
 meeting_met =
     main_after_meeting
@@ -134,7 +135,7 @@ meeting_met =
     (alone_until rendezvous_program never 1 100 (alone_until rendezvous_program never 0 100 (source_start rendezvous_program)))
     (Meet 0 1))
 
--- the sender waits, then the channel is closed, then the sender goes on
+-- the sender waits, then the channel is closed, then the sender traps: it is still at its send
 abbrev pub closing_closed : List ℕ × Option End
 closing_closed =
     print_and_end

@@ -9,7 +9,8 @@ use Rattle.rgo_memory.specs.declared.values.Value.{Value}
 use Rattle.rgo_memory.specs.declared.values.Value.TheVariants.{Nil}
 use Rattle.rgo_memory.specs.Values.{zero_of}
 
--- One thing to do. What produces a value pushes it on the frame's values; what takes n values takes the newest n.
+-- One thing to do. What produces a value pushes it on the frame's values; what takes n values takes the newest n. Some do nothing: if
+-- the code has a copy or a jump there, a step of this machine has to go with it.
 pub data Todo : Type 0 where
   -- evaluate a term, or several
   Evaluate : Term → Todo
@@ -17,15 +18,16 @@ pub data Todo : Type 0 where
   -- an action on the newest `count` values, with a result of a type, or without a result
   Perform : Action → (count : ℕ) → «Type» → (place : ℕ) → Todo
   Affect : Action → (count : ℕ) → (place : ℕ) → Todo
-  -- the value of a right side is the value of the whole: nothing is done
+  -- the value of a side is the value of the whole `&&` or `||`: nothing is done, where the code copies it
   Settle : Todo
-  -- the right side of `&&` or `||`, where the left side does not decide
+  -- the right side of `&&` or `||`, if the left side does not decide
   Decide : Logical → Term → Todo
   -- a new object of a struct
   Create : (struct : ℕ) → Todo
-  -- the `count` values below the newest are stored in the fields of its object, one by one
+  -- The `count` values below the newest are stored in the fields of its object, one by one: a step writes at most one cell, as threads
+  -- do. Nothing else refers to the object yet.
   Fill : (count : ℕ) → (fields : List ℕ) → (place : ℕ) → Todo
-  -- the newest `count` values once more
+  -- the newest `count` values once more: an assignment that computes evaluates its operands once, and reads and writes with them
   Repeat : (count : ℕ) → Todo
   -- a local variable is assigned the newest value; the newest value is dropped; a local variable is set to the zero of
   -- its type
@@ -43,7 +45,7 @@ pub data Todo : Type 0 where
   -- these statements if the value is true; or one of two lists
   When : Stmts → Todo
   Choose : Stmts → Stmts → Todo
-  -- the end of a block; the end of the first of two branches, or of a loop's turn: nothing is done
+  -- The end of a block; the end of the first of two branches, or of a loop's turn: nothing is done. The code jumps at `Onward`.
   Close : Todo
   Onward : Todo
   -- a loop from its condition on; what the condition's value decides; and, after its body, the post statement and the
@@ -56,8 +58,9 @@ pub data Todo : Type 0 where
   -- the end of a function with a result, which no valid program reaches: the frame stays here
   Stay : Todo
 
--- the local variables by number; the values that are not used yet, the newest first; and what is to do, in order. If
--- nothing is to do, the function returns without a value
+-- The local variables by number; the values that are not used yet, the newest first; and what is to do, in order. If
+-- nothing is to do, the function returns without a value. What is to do is a list and not a place in the tree: `break`, `continue` and
+-- `return` drop a beginning of it.
 pub record SourceFrame : Type 0 where
   pub locals : List Value
   pub values : List Value
@@ -65,10 +68,11 @@ pub record SourceFrame : Type 0 where
 
 -- ---- local variables
 
+-- the value of local variable n; nil if there is none, which never happens in a typed program
 abbrev pub local_value : List Value → ℕ → Value
 local_value locals n = get_or locals n Nil
 
--- the list is longer where it has to be
+-- the list gets longer if it has to be, so that an assignment is defined for every number
 abbrev pub with_local_value : List Value → ℕ → Value → List Value
 with_local_value [] zero v = v ∷ []
 with_local_value [] (suc n) v = Nil ∷ with_local_value [] n v
@@ -81,6 +85,7 @@ with_local_value (u ∷ locals) (suc n) v = u ∷ with_local_value locals n v
 abbrev pub value_below : List Value → ℕ → Value
 value_below values newer = get_or values newer Nil
 
+-- the value that was pushed last
 abbrev pub newest_value : List Value → Value
 newest_value values = value_below values 0
 
@@ -99,12 +104,14 @@ replaced x count (y ∷ below) = x ∷ drop count below
 
 -- ---- calls
 
--- what follows the body of a function, by its result: without one it returns
+-- What follows the body of a function, by its result: without one it returns. With one it stays, since there is no value to return; a
+-- valid program never reaches this, as its body ends with a return.
 abbrev pub closing : Option «Type» → List Todo
 closing None = []
 closing (Some ty) = Stay ∷ []
 
--- the parameters have the arguments, all other local variables the zero of their type
+-- The parameters have the arguments, all other local variables the zero of their type. A declaration assigns again, each time that it is
+-- executed.
 abbrev pub new_source_frame : Function → List Value → SourceFrame
 new_source_frame f arguments = record {
   locals = arguments ++ map zero_of (drop (length arguments) f.locals);

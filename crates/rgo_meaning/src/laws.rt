@@ -1,4 +1,5 @@
-//! What holds of the definitions by themselves: small programs mean what a reader expects.
+//! What holds of the definitions by themselves: small programs mean what a reader expects. The definitions are trusted, so these
+//! runs, worked out by computation, are the only check of them inside the proof.
 
 ghost use Rattle.rgo_meaning.specs.Examples.{Examples};
 

@@ -8,7 +8,8 @@ pub data Object : Type 0 where
   SliceObject : (cells : List Value) → Object
   Channel : (capacity : ℕ) (queue : List Value) (closed : Bool) → Object
 
--- the objects and the package variables, each numbered by its position
+-- The objects and the package variables, each numbered by its position. No object is ever removed: a program means what it would do with
+-- memory without end, and machines with regions are compared with that.
 pub record Memory : Type 0 where
   pub heap : List Object
   pub variables : List Value
@@ -17,10 +18,10 @@ pub record Memory : Type 0 where
 abbrev pub with_object : Memory → ℕ → Object → Memory
 with_object m n object = record m { heap = slice_set m.heap n object }
 
--- the object of that number; a struct without fields where there is none
+-- the object of that number; a struct without fields if there is none, as an object that was emptied is
 abbrev pub object_at : Memory → ℕ → Object
 object_at m n = slice_index_or m.heap n (StructObject [])
 
--- the memory without what the object of that number held
+-- The memory without what the object of that number held. The object stays, so that the numbers of the others do.
 abbrev pub emptied : Memory → ℕ → Memory
 emptied m n = with_object m n (StructObject [])

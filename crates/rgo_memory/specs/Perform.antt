@@ -1,5 +1,5 @@
--- What each action does, by how many operands it has. Receive, send and close are no actions of one goroutine alone:
--- see Channels.
+-- What each action does, by how many operands it has. Receive, send and close do nothing here: they may wait, or let others continue, so
+-- machines treat them apart (see Channels). Each definition names all actions, so that a new one cannot be forgotten.
 use Rattle.std.specs.Prelude.{ℕ, List, [], ◌∷◌, slice_get, slice_set}
 use Rattle.rgo_typed.specs.declared.types.Type.{«Type»}
 use Rattle.rgo_typed.specs.declared.programs.Struct.{Struct}
@@ -14,6 +14,7 @@ use Rattle.rgo_memory.specs.Fields.{or_nil, load, store}
 use Rattle.rgo_memory.specs.Elements.{element_at, length_of, put}
 use Rattle.rgo_memory.specs.Making.{new_struct, new_slice, new_channel}
 
+-- the package variable of number n is assigned v
 abbrev pub set_variable : ℕ → Value → Memory → Effect
 set_variable n v m = Does (record m { variables = slice_set m.variables n v }) value.Nil
 
@@ -113,7 +114,7 @@ on_three action.Close u v w m = nothing m
 on_three (action.Get n) u v w m = nothing m
 on_three (action.Set n) u v w m = nothing m
 
--- what an action does with these operands; ty is the type of its value
+-- what an action does with these operands; ty is the type of its value, which only a new slice looks at, for its zeros
 abbrev pub perform : List Struct → Action → «Type» → List Value → Memory → Effect
 perform structs a ty [] m = on_none structs a m
 perform structs a ty (v ∷ []) m = on_one a ty v m

@@ -1,4 +1,5 @@
-//! The operators, on values.
+//! The operators, on values. They are total, so that no machine needs types at run time: an operator returns `nil` for operands
+//! that it does not take, which no well-typed program passes to it.
 
 ghost use Rattle.std.specs.Prelude.{◌≡◌};
 ghost use Rattle.rgo_memory.specs.Operators.{is_equal, on_ints, binary_of, negated_value, inverted};
@@ -8,7 +9,7 @@ use crate::traps::Trap;
 use crate::values::Value;
 use rgo_ast::BinaryOp;
 
-/// What `==` and `!=` give where both values are equal, or are not.
+/// The result of `==` or `!=`, from whether the operands are equal; `nil` for operators that do not compare for equality.
 #[inline(always)]
 fn is_equal(op: BinaryOp, same: bool) -> Value
     ensures { result ≡ is_equal op same }
@@ -34,6 +35,8 @@ pub fn on_ints(op: BinaryOp, x: i64, y: i64) -> Result<Value, Trap>
         BinaryOp::Add => Value::Int(x.wrapping_add(y)),
         BinaryOp::Sub => Value::Int(x.wrapping_sub(y)),
         BinaryOp::Mul => Value::Int(x.wrapping_mul(y)),
+        // The test comes before both divisions, which need a divisor that is not zero. -1 as a divisor needs no test: the
+        // quotient of the least integer wraps to itself, as in Go.
         BinaryOp::Div | BinaryOp::Rem if y == 0 => return Err(Trap::DivideZero),
         BinaryOp::Div => Value::Int(x.wrapping_div(y)),
         BinaryOp::Rem => Value::Int(x.wrapping_rem(y)),
@@ -42,18 +45,19 @@ pub fn on_ints(op: BinaryOp, x: i64, y: i64) -> Result<Value, Trap>
         BinaryOp::Gt => Value::Bool(x > y),
         BinaryOp::Ge => Value::Bool(x >= y),
         BinaryOp::Eq | BinaryOp::Ne => is_equal(op, x == y),
+        // Never reached: these two are branches, since their right operand may not be evaluated.
         BinaryOp::And | BinaryOp::Or => Value::Nil,
     };
     Ok(value)
 }
 
-/// What a binary operator gives (The Go Programming Language Specification, "Arithmetic operators",
-/// "Comparison operators"). Pointers, slices and channels are equal where they are one object. `nil`
-/// where the operator does not take these values. `&&` and `||` are not among those that it knows.
+/// The result of a binary operator (The Go Programming Language Specification, "Arithmetic operators",
+/// "Comparison operators"). Pointers, slices and channels are equal if they refer to one object, so that
+/// two objects with the same contents differ. `&&` and `||` are not among the operators.
 ///
 /// # Errors
 ///
-/// Where an integer is divided by zero.
+/// If an integer is divided by zero.
 #[inline(always)]
 pub fn binary(op: BinaryOp, left: Value, right: Value) -> Result<Value, Trap>
     ensures { result ≡ binary_of op left right }
@@ -69,7 +73,7 @@ pub fn binary(op: BinaryOp, left: Value, right: Value) -> Result<Value, Trap>
     }
 }
 
-/// `-x`: the least integer is its own. `nil` where `x` is no integer.
+/// `-x`, which wraps: the least integer is its own negation. `nil` if `x` is not an integer.
 #[inline(always)]
 pub fn negated(value: Value) -> Value
     ensures { result ≡ negated_value value }
@@ -80,7 +84,7 @@ pub fn negated(value: Value) -> Value
     }
 }
 
-/// `!x`. `nil` where `x` is no truth value.
+/// `!x`. `nil` if `x` is not a truth value.
 #[inline(always)]
 pub fn inverted(value: Value) -> Value
     ensures { result ≡ inverted value }
@@ -91,7 +95,7 @@ pub fn inverted(value: Value) -> Value
     }
 }
 
-/// `x == nil`. `nil` where `x` can never be nil.
+/// `x == nil`. `nil` if `x` can never be nil.
 #[inline(always)]
 pub fn is_nil(value: Value) -> Value
     ensures { result ≡ nil_test value }

@@ -7,11 +7,12 @@ use crate::values::Value;
 use itoa::Buffer;
 use std::alloc::AllocError;
 
-/// Appends what `fmt.Println` writes for an integer or a truth value. Nothing for others.
+/// Appends what `fmt.Println` writes for an integer or a truth value. Nothing for others, which the typing rules keep out of
+/// prints: Go would write an address, and an object here has a number only.
 ///
 /// # Errors
 ///
-/// Where there is no memory for it. Then nothing is appended.
+/// On allocation failure. Then nothing is appended.
 pub fn write_value(bytes: &mut Vec<u8>, value: Value) -> Result<(), AllocError>
     ensures appends { OnOk result (bytes.new.items ≡ bytes.old.items ++ shown value) }
     ensures keeps { OnErr result (bytes.new.items ≡ bytes.old.items) }

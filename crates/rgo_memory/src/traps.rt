@@ -3,7 +3,7 @@
 ghost use Rattle.std.specs.Prelude.{◌≡◌};
 ghost use Rattle.rgo_memory.specs.Traps.{trap_number, trap_name};
 
-/// Why a program ends before its end (The Go Programming Language Specification, "Run-time
+/// The run-time error that ends a run (The Go Programming Language Specification, "Run-time
 /// panics").
 #[derive(Clone, Copy, Debug, PartialEq, Eq)]
 pub enum Trap {
@@ -24,7 +24,7 @@ pub enum Trap {
 }
 
 impl Trap {
-    /// Its number, from 1 on.
+    /// Its number, from 1 on. Messages show it, so the numbers never change.
     pub fn number(self) -> u8
         ensures { result ≡ trap_number self }
     {
@@ -39,7 +39,7 @@ impl Trap {
         }
     }
 
-    /// Its name.
+    /// Its name, which messages show after the number.
     pub fn name(self) -> &'static str
         ensures { result.now ≡ trap_name self }
     {

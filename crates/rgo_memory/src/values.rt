@@ -1,18 +1,18 @@
-//! Values, and those at which variables start.
+//! Values, and the zeros at which variables start.
 
 ghost use Rattle.std.specs.Prelude.{◌≡◌};
 ghost use Rattle.rgo_memory.specs.Values.{base_zero, zero_of, element_zero};
 
 use rgo_typed::{Base, Type};
 
-/// A value.
+/// A value. It keeps its kind, which the types of a program determine, too: so a machine can check what it does without types.
 #[derive(Clone, Copy, Debug, Default, PartialEq, Eq)]
 pub enum Value {
     Int(i64),
     Bool(bool),
     #[default]
     Nil,
-    /// A pointer, a slice or a channel, by the number of its object.
+    /// A pointer, a slice or a channel, by the number of its object. The object knows which of the three it is.
     Object(usize),
 }
 
@@ -38,11 +38,12 @@ pub fn zero(ty: &Type) -> Value
     }
 }
 
-/// The value at which an element of a slice of this type starts, and what a closed channel of this
-/// type gives. `nil` at a type that has no elements.
+/// The value at which an element of a slice of this type starts, and which a receive from a closed channel of this
+/// type returns. `nil` for a type without elements.
 pub fn element_zero(ty: &Type) -> Value
     ensures { result ≡ element_zero ty.now }
 {
+    // With two layers or more the elements are slices or channels, whose zero is nil whatever they hold.
     if ty.layers.items().len() == 1 {
         base_zero(ty.base)
     } else {

@@ -1,4 +1,5 @@
--- What a replay does of the picks that were noted of a run: it ends as the run did, and prints the same.
+-- What a replay does with the picks that were noted of a run: it ends as the run did, and prints the same. The run had regions and the
+-- replay has none, so this is also a law about regions: they change nothing that can be seen.
 use Rattle.std.specs.Prelude.{◌≡◌, ◌⊎◌, ℕ, List, Option, ⊤}
 use Rattle.std.specs.Io.KnownBytes.{Appends}
 use Rattle.rgo_machine.specs.declared.limits.Limits.{Limits}
@@ -29,7 +30,7 @@ ReplaysAs (run_end.NoRoom shortage) e = e ≡ replay_end.Unfinished
 ReplaysAs run_end.WriteFault e = ⊤
 ReplaysAs run_end.NoMemory e = ⊤
 
--- the replay ends so, and writes what the run has printed
+-- The replay ends so, and writes what the run has printed. If a write of the run failed, that is more than the run has written.
 pub record ReplaysTheRun (end : RunEnd) (old new : Option (List ℕ)) (e : ReplayEnd) (before after : Option (List ℕ)) : Type 0 where
   pub ends : ReplaysAs end e
   pub bytes : List ℕ

@@ -13,6 +13,6 @@ picks_in notes = flat_map (λ note. replicate note.times note.pick) notes
 abbrev pub noted_picks : Notes → List TacPick
 noted_picks notes = picks_in notes.list.items
 
--- one note more needs no memory
+-- One note more needs no memory: it is taken before the steps, so that no step is taken that could not be noted.
 abbrev pub NotesHaveRoom : Notes → Type 0
 NotesHaveRoom notes = vec_len notes.list < vec_capacity notes.list

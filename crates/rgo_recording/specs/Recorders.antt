@@ -15,7 +15,7 @@ use Rattle.rgo_recording.specs.declared.recorders.Recorder.{Recorder}
 use Rattle.rgo_recording.specs.Notes.{noted_picks}
 
 -- These picks are a run of the code without its regions, and it leads to this state, where the print is all that was ever
--- printed: what was given out before, and what has not been yet. Each can be in a journal.
+-- printed: what was written before, and what has not been yet. Each can be in a journal.
 pub record LeadTo (code : Code) (picks : List TacPick) (given : List ℕ) (s : TacState) : Type 0 where
   pub takes : TakesPicks (erased code) picks (record s { printed = given ++ s.printed })
   pub fit : All PickFits picks
@@ -25,7 +25,7 @@ pub record RecorderShows (r : Recorder) (given : List ℕ) (s : TacState) : Type
   pub stands : IsWorldAt r.world given s
   pub lead : LeadTo r.world.code.now (noted_picks r.notes) given s
 
--- what still holds of it once memory has run out
+-- What still holds of it once memory has run out: the notes are a run that leads to its state, so even then its journal can be replayed.
 pub record RecorderLeaves (r : Recorder) (given : List ℕ) (s : TacState) : Type 0 where
   pub reaches : WorldReaches r.world given s
   pub lead : LeadTo r.world.code.now (noted_picks r.notes) given s

@@ -13,7 +13,8 @@ pub struct Note {
     pub times: usize,
 }
 
-/// The picks of a run so far. Those of one turn take the room of one.
+/// The picks of a run so far. Those of one turn take the room of one: a note for each step would take 1,000 times the memory when
+/// one goroutine runs alone.
 #[derive(Drop)]
 pub struct Notes {
     pub(crate) list: Vec<Note>,
@@ -55,6 +56,7 @@ impl Notes {
         requires { NotesHaveRoom self.old }
         ensures { noted_picks self.new ≡ noted_picks self.old ++ replicate times pick }
     {
+        // A turn without a step leaves no note; the room stays for the next.
         if times == 0 {
             return;
         }

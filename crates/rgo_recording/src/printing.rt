@@ -9,7 +9,7 @@ use crate::notes::{Note, Notes};
 use rgo_journal::print_pick;
 use std::alloc::{AllocError, Global};
 
-/// The line of a pick, `times` times.
+/// The line of a pick, `times` times. The line is made once for the whole note.
 fn print_times(out: &mut Vec<u8>, line: &[u8], times: usize) -> Result<(), AllocError>
     ensures { (pick : Pick) → line.now ≡ pick_line pick
         → OnOk result (out.new.items ≡ out.old.items ++ pick_lines (replicate times pick)) }

@@ -1,4 +1,5 @@
-//! A run with its regions whose steps are noted, as a driver takes it on.
+//! A run with its regions whose steps are noted, as a driver takes it on. To the driver it is a run like any other: notes are taken
+//! inside its turns and meetings.
 
 ghost use Rattle.std.specs.Prelude.{◌≡◌, IfSome};
 ghost use Rattle.rgo_journal.specs.declared.picks.TacPick.TheVariants.{One, Meet};
@@ -95,6 +96,7 @@ impl<'a> Running for Recorder<'a> {
         };
         match self.world.meet(alloc, receiver, sender) {
             Ok(true) => {
+                // A meeting that was refused is not noted: it was no step.
                 self.notes.note(pick, 1);
                 Ok(true)
             }

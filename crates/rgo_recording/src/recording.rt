@@ -24,7 +24,7 @@ pub struct Recorded<'a> {
 }
 
 /// Runs code from its start on the caller's thread, in rounds as [`run`] does, and notes each of its steps. The room for
-/// what is noted of a turn is taken before it, and of a meeting before that.
+/// what is noted of a turn or a meeting is taken before it, so that no step is taken that could not be noted.
 ///
 /// # Errors
 ///

@@ -1,4 +1,5 @@
--- Steps of a turn, one after the other.
+-- Steps of a turn, one after the other. Counts are related to the true number of steps (`CountsUp`), so they add up although the code's
+-- addition stops at the end of its type.
 use Rattle.std.proofs.Common.{◌≡◌, ◌<◌, ◌≤◌, ◌+◌, ◌-◌, ◌^◌, ◌⊎◌, inl, inr, ℕ, List, [], ◌∷◌, ◌++◌}
 use Rattle.std.proofs.Common.{length}
 use Rattle.std.proofs.Common.{Option, Some, None, refl, ap, sym, subst, ◌∙◌, arith}

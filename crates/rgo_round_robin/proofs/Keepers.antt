@@ -1,4 +1,6 @@
--- No goroutine is lost: each is ready, or sleeps.
+-- No goroutine is lost: each is ready, or sleeps. The record is about all goroutines but the one whose turn it is, so that it can be
+-- composed step by step (`keeps_on`); that one is added when its turn is over (`passes`). The hard case is a meeting, which changes a
+-- second goroutine: it was the last of its list, and is ready then.
 use Rattle.std.proofs.Common.{◌≡◌, ◌<◌, ◌≤◌, ◌+◌, ◌⊎◌, inl, inr, ℕ, List, [], ◌∷◌}
 use Rattle.std.proofs.Common.{◌++◌, length, Contains, Option, Some, None}
 use Rattle.std.proofs.Common.{refl, ap, sym, subst, ◌∙◌, arith}

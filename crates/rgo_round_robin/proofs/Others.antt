@@ -1,4 +1,5 @@
--- A step of one goroutine leaves the frames of all others, and a meeting leaves those of a third one.
+-- A step of one goroutine leaves the frames of all others, and a meeting leaves those of a third one. With the channels that did not change
+-- (Sleepers) this is all that a goroutine's having no step depends on.
 use Rattle.std.proofs.Common.{◌≡◌, ◌<◌, ◌≤◌, ◌⊎◌, inl, inr, ℕ, zero, suc, Bool, true, false, List, [], ◌∷◌, ◌++◌}
 use Rattle.std.proofs.Common.{length, Option, Some, None}
 use Rattle.std.proofs.Common.{refl, ap, subst, ◌∙◌, arith, replicate, length-append, length-set}

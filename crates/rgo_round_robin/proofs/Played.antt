@@ -1,4 +1,5 @@
--- Turns and rounds, with what went out, one after the other.
+-- Turns and rounds, with what went out, one after the other. A run clears its print after each turn; the steps do not look at the print, so
+-- the same steps are a turn of a run that has kept all that it printed.
 use Rattle.std.proofs.Common.{◌≡◌, ◌+◌, ◌⊎◌, inl, inr, ℕ, List, [], ◌∷◌, ◌++◌, length, take}
 use Rattle.std.proofs.Common.{Contains}
 use Rattle.std.proofs.Common.{Option, Some, Result, Ok, Err, MatchResult, IsErrOf, refl, ap, sym, subst}

@@ -1,4 +1,5 @@
--- Rounds, with what went out, one after the other.
+-- Rounds, with what went out, one after the other. The hard case is a round without a step: a meeting that is found then counts as the turn
+-- of its receiver, and if there is none, all goroutines are known to have no step, which is a deadlock.
 use Rattle.std.proofs.Common.{◌≡◌, ◌<◌, ◌≤◌, ◌+◌, ◌-◌, ◌^◌, ◌⊎◌, inl, inr, ℕ, List, [], ◌∷◌, ◌++◌, length}
 use Rattle.std.proofs.Common.{Contains}
 use Rattle.std.proofs.Common.{Option, Some, None, Result, Ok, Err, MatchResult, OnOk, refl, ap, sym, subst}
@@ -322,7 +323,7 @@ module _ {F : Type 0} (machine : Machine F) (limits : Limits) where
       omega (arith, before, after, counting, le, ap (λ l. length l) none)
   met_counts old run given s d m e (Err end) a b counting all le met = tt
 
-  -- ---- passes
+  -- ---- a round and the test of the limit
 
   pub finishes : {C : Type 0} (run : View F C) (given : List ℕ) (s : State F) (m : ℕ) (end : RunEnd)
       (a b : Option (List ℕ))

@@ -1,4 +1,5 @@
--- A goroutine that sleeps still does after a step of others that leaves its channel.
+-- A goroutine that sleeps still does after a step of others that leaves its channel as it is: whether it has a step alone depends on its
+-- frames and that channel only.
 use Rattle.std.proofs.Common.{◌≡◌, ℕ, List, [], ◌∷◌, Contains, Option, Some, None}
 use Rattle.std.proofs.Common.{refl, ap, sym, ◌∙◌}
 use Rattle.std.specs.Prelude.{option_and_then, slice_get}

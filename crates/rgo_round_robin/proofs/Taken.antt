@@ -1,4 +1,5 @@
--- Turns and their parts, by what they make of a run under way.
+-- Turns and their parts, by what they make of a run under way: Composed and Keepers speak of points, and here each is put together with the
+-- state that the run is at.
 use Rattle.std.proofs.Common.{◌≡◌, ◌≤◌, ◌<◌, ◌+◌, ◌-◌, ◌⊎◌, inl, inr, ℕ, false, List, [], ◌∷◌, ◌++◌, length}
 use Rattle.std.proofs.Common.{Option, Some, None, Result, Ok, Err, MatchResult, refl, sym, subst, arith, Contains}
 use Rattle.rgo_machine.specs.declared.limits.Limits.{Limits}

@@ -1,4 +1,5 @@
--- What happens in rounds, with what goes out. Everything is said whatever was printed before.
+-- What happens in rounds, with what goes out. Everything is stated for every print before: the run clears its print when it is written, so
+-- its states have only the newest part, and these records put the parts together to runs that keep all.
 use Rattle.std.specs.Prelude.{◌≡◌, ◌<◌, ℕ, ◌+◌, ◌-◌, ◌^◌, min, max, List, ◌++◌, length, Option}
 use Rattle.std.specs.Io.KnownBytes.{Appends}
 use Rattle.rgo_machine.specs.declared.limits.Limits.{Limits}
@@ -20,7 +21,8 @@ module _ {F : Type 0} where
   state_with_print s bytes = record s { printed = bytes }
 
 module _ {F : Type 0} (machine : Machine F) (limits : Limits) where
-  -- between rounds
+  -- Between rounds: what holds before each of them. `watches` says that no goroutine is lost, on which a deadlock and the fairness of a
+  -- round rest; `counting` that the count of steps is still exact.
   pub record IsBetweenRounds (p : Point F) : Type 0 where
     pub ready : IsReadyForTurn limits p.state
     pub watches : Watches machine p.state p.ready p.waiting
@@ -50,7 +52,8 @@ module _ {F : Type 0} (machine : Machine F) (limits : Limits) where
     pub counted : CountsPicks p.steps picks q.steps
     pub gave : Appends old new bytes
 
-  -- part of a round, after which the run ends, whatever was counted; these bytes had been written before
+  -- Part of a round, after which the run ends, whatever was counted; `given` had been written before. The last write may have failed, so
+  -- the print that the run still has is kept apart from what was written.
   pub record RoundEndsRun
       {C : Type 0} (run : View F C) (given : List ℕ) (s : State F) (end : RunEnd) (old new : Option (List ℕ))
       : Type 0 where
@@ -65,7 +68,7 @@ module _ {F : Type 0} (machine : Machine F) (limits : Limits) where
     pub whole : given ++ bytes ≡ before ++ run.print
     pub left : IsRunLeft run machine before (state_with_print state run.print) end
 
-  -- part of a round, after which the run ends; these bytes had been written and m steps counted before
+  -- the same with the count: `given` had been written and m steps counted before, which the limit of steps is about
   pub record Finishes
       {C : Type 0} (run : View F C) (given : List ℕ) (s : State F) (m : ℕ) (end : RunEnd) (old new : Option (List ℕ))
       : Type 0 where

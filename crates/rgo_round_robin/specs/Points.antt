@@ -1,4 +1,4 @@
--- A run under way, as plain data.
+-- A run under way, as plain data: the state, which the driver does not see, and what the driver knows.
 use Rattle.std.specs.Prelude.{ℕ, List, [], Option, Some, None, nat_eq, Vec}
 use Rattle.std.specs.HashMap.{HashMap, get}
 use Rattle.rgo_machine.specs.Machines.{State}

@@ -1,4 +1,4 @@
--- What is known where two goroutines that meet are looked for.
+-- What is known when two goroutines that meet are looked for: a meeting, a deadlock, or that memory has run out.
 use Rattle.std.specs.Prelude.{◌≡◌, ◌⊎◌, ℕ, Bool, true, false, List, Some, None, Result, Ok, Err}
 use Rattle.std.specs.declared.alloc.AllocError.{AllocError}
 use Rattle.rgo_machine.specs.declared.picks.Pick.TheVariants.{Meet}
@@ -19,7 +19,7 @@ pub record IsLeftOver {F C : Type 0} (run : View F C) (machine : Machine F) (giv
   pub print : s.printed ≡ run.print
   pub leaves : run.leaves given s
 
--- memory has run out, before a meeting or after it
+-- Memory has run out, before a meeting or after it: after it, if there is no memory to list the two. The step has then been taken.
 pub record MeetsNoMemory
     {F C : Type 0} (run : View F C) (machine : Machine F) (given : List ℕ) (s : State F) (end : RunEnd)
     : Type 0 where
@@ -60,7 +60,7 @@ module _ {F C : Type 0} (run : View F C) (machine : Machine F) (given : List ℕ
     pub at : IsRunAt run machine given s
     pub unmet : (g : ℕ) → IsUnmet machine s g
 
-  -- two have met; where no two can, the run ends with a deadlock
+  -- two have met; if no two can, the run ends with a deadlock
   abbrev pub MeetsAny : Result (Unit {0}) RunEnd → (d e : Driver) → Type 0
   MeetsAny (Ok x) d e = MeetsTwo d e
   MeetsAny (Err end) d e = MeetsNone end ⊎ MeetsNoMemory run machine given s end

@@ -6,7 +6,7 @@ use Rattle.rgo_machine.specs.declared.picks.Pick.TheVariants.{One, Meet}
 use Rattle.rgo_machine.specs.Limits.{LeadsWithin}
 use Rattle.rgo_machine.specs.Machines.{Machine, State, step_by}
 
--- the most steps of a turn
+-- the most steps of a turn, so that each goroutine has one again after a bounded number of steps of the others
 abbrev pub longest_turn : ℕ
 longest_turn = 1000
 
@@ -27,7 +27,7 @@ module _ {F : Type 0} (machine : Machine F) (limits : Limits) where
     pub short : length picks ≤ longest_turn
     pub own : All (IsPickOf g) picks
 
-  -- a turn: without steps only where the goroutine has none alone
+  -- A turn: without steps only if the goroutine has none alone. Otherwise a round could be fair without anyone stepping.
   pub record IsTurn (s : State F) (g : ℕ) (picks : List Pick) (t : State F) : Type 0 where
     pub fits : FitsTurn s g picks t
     pub plays : picks ≡ [] → step_by machine s (One g) ≡ None
@@ -39,13 +39,13 @@ module _ {F : Type 0} (machine : Machine F) (limits : Limits) where
       (first rest : List Pick) × (u : State F)
       × (picks ≡ first ++ rest) × IsTurn s g first u × AreTurns u order rest t
 
-  -- a round: every goroutine that can step alone as it begins has a turn in it
+  -- A round: every goroutine that can step alone as it begins has a turn in it, in any order. The others may have one, too.
   pub record IsRound (s : State F) (picks : List Pick) (t : State F) : Type 0 where
     pub order : List ℕ
     pub turns : AreTurns s order picks t
     pub fair : (g : ℕ) → (step_by machine s (One g) ≡ None → ⊥) → Contains order g
 
-  -- a round up to some point: turns, and the begin of one more
+  -- A round up to some point: turns, and the beginning of one more. A run ends in the middle of a round.
   pub record IsBegunRound (s : State F) (picks : List Pick) (t : State F) : Type 0 where
     pub order : List ℕ
     pub whole : List Pick

@@ -11,7 +11,7 @@ use Rattle.rgo_machine.specs.Machines.{Machine, State}
 use Rattle.rgo_round_robin.specs.Rounds.{AreRounds, IsBegunRound, all_of}
 use Rattle.rgo_round_robin.specs.Running.{View, RunContinues}
 
--- some run from a state ends so, in rounds and within the limits, and its print was given out
+-- some run from a state ends so, in rounds and within the limits, and its print was written
 pub record RunsInRounds
     {F : Type 0} (machine : Machine F) (limits : Limits) (start : State F) (end : RunEnd) (old new : Option (List ℕ))
     : Type 0 where
@@ -26,7 +26,7 @@ pub record RunsInRounds
   pub ends : RunEndsAs machine limits (length (all_of rounds)) (length (all_of rounds ++ last)) state end
   pub gives : RunPrints end state.printed old new
 
--- a state in which a run may begin, and between turns: the run continues, and all that was printed was given out
+-- a state in which a run may begin, and between turns: the run continues, and all that was printed was written
 pub record IsReadyForTurn {F : Type 0} (limits : Limits) (s : State F) : Type 0 where
   pub on : RunContinues limits s
   pub silent : s.printed ≡ []
@@ -39,7 +39,7 @@ module _ {F C : Type 0} where
     pub shown : run.shows given state
     pub ready : IsReadyForTurn limits state
 
-  -- what holds of a run of this machine, at this state, that has ended so, with what was given out before
+  -- what holds of a run of this machine, at this state, that has ended so, with what was written before
   pub record IsRunLeft (run : View F C) (machine : Machine F) (given : List ℕ) (s : State F) (end : RunEnd)
       : Type 0 where
     pub is : run.machine ≡ machine
@@ -47,8 +47,8 @@ module _ {F C : Type 0} where
     pub shows : (end ≡ run_end.NoMemory → ⊥) → (end ≡ run_end.WriteFault → ⊥) → run.shows given s
     pub lacks : (shortage : Shortage) → end ≡ run_end.NoRoom shortage → run.lacks shortage given s
 
-  -- A run of the machine from a state, and what holds of the run under way at its last state. What was given out is no
-  -- longer in its print: `before` and its print are what was given out at first, and all that was printed since.
+  -- A run of the machine from a state, and what holds of the run under way at its last state. What was written is no
+  -- longer in its print: `before` and its print are what was written at first, and all that was printed since.
   pub record RunsTo
       (run : View F C) (machine : Machine F) (limits : Limits) (given : List ℕ) (start : State F) (end : RunEnd)
       (old new : Option (List ℕ))

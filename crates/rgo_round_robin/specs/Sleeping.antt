@@ -1,4 +1,5 @@
--- Goroutines without a step: they have returned, or wait at a channel, where they are listed.
+-- Goroutines without a step: they have returned, or wait at a channel, where they are listed. A driver gives no turns to them, so it has to
+-- be kept that none of them has a step.
 use Rattle.std.specs.Prelude.{◌≡◌, ◌≤◌, ◌<◌, ◌⊎◌, ℕ, List, ◌∷◌, ◌++◌, length, Option, Some, None, Contains}
 use Rattle.std.specs.Prelude.{option_and_then}
 use Rattle.rgo_memory.specs.declared.values.Value.TheVariants.{Object}
@@ -19,12 +20,13 @@ module _ {F : Type 0} (machine : Machine F) where
   abbrev pub next_channel_of : State F → ℕ → Option ℕ
   next_channel_of s g = option_and_then waits_at (standing machine s g)
 
-  -- the goroutine has no step alone, and where it waits at a channel it is listed there
+  -- The goroutine has no step alone, and if it waits at a channel it is listed there. One that has returned, or waits at nil, is listed
+  -- nowhere: it never has a step again.
   pub record Sleeps (s : State F) (waiting : ℕ → List ℕ) (g : ℕ) : Type 0 where
     pub still : step_by machine s (One g) ≡ None
     pub listed : (channel : ℕ) → next_channel_of s g ≡ Some channel → Contains (waiting channel) g
 
-  -- every goroutine is among these, or sleeps
+  -- Every goroutine is among these, or sleeps. It is allowed to be both, so a goroutine may be woken for nothing.
   abbrev pub Watches : State F → List ℕ → (ℕ → List ℕ) → Type 0
   Watches s awake waiting = (g : ℕ) → g < length s.goroutines → Contains awake g ⊎ Sleeps s waiting g
 
@@ -36,7 +38,7 @@ module _ {F : Type 0} (machine : Machine F) where
         → Contains q.ready h ⊎ Sleeps q.state q.waiting h
     pub fresh : (h : ℕ) → length p.state.goroutines ≤ h → h < length q.state.goroutines → Contains q.ready h
 
-  -- after the turn of a goroutine, with those that have theirs later in the round
+  -- After the turn of a goroutine, with those that have theirs later in the round: `rest` is any list, so turns can be put together.
   abbrev pub RoundContinues : ℕ → Point F → Point F → Type 0
   RoundContinues g p q =
       (rest : List ℕ) → Watches p.state (g ∷ rest ++ p.ready) p.waiting → Watches q.state (rest ++ q.ready) q.waiting

@@ -25,7 +25,7 @@ operated_channel stop.Full = None
 operated_channel (stop.NoRoom shortage) = None
 operated_channel stop.NoMemory = None
 
--- the end of the run that a turn has found
+-- the end of the run that a turn has found; a turn that spent its steps, waits, printed or operated ends nothing
 abbrev pub run_end_of : TurnEnd → Option RunEnd
 run_end_of (stop.Ended e) = Some (run_end.Ended e)
 run_end_of stop.TooDeep = Some run_end.CallsTooDeep
@@ -37,7 +37,8 @@ run_end_of stop.Waits = None
 run_end_of stop.Printed = None
 run_end_of (stop.Operated channel) = None
 
--- A count that stops at the end of a u64, m before and n after `count` steps: what is added up is how many they were in truth.
+-- A count that stops at the end of a u64, m before and n after `count` steps. It is related to the true number of steps, so that such
+-- relations add up even after it has stopped.
 abbrev pub CountsUp : (m count n : ℕ) → Type 0
 CountsUp m count n = (taken : ℕ) → m ≡ min taken (2 ^ 64 - 1) → n ≡ min (taken + count) (2 ^ 64 - 1)
 

@@ -1,4 +1,5 @@
-//! What a run has printed goes out line by line.
+//! What a run has printed goes out line by line, so that a reader of the sink never sees half a line of one goroutine before a line
+//! of another.
 
 ghost use Rattle.std.specs.Prelude.{◌≤◌, ◌<◌, length, take, IfOk, OnOk, OnErr, IsErr};
 ghost use Rattle.std.specs.Io.KnownBytes.{Appends};

@@ -22,7 +22,7 @@ fn admit_both(ready: &mut Vec<usize>, first: usize, second: usize) -> Result<(),
     Ok(())
 }
 
-/// Two goroutines meet, which can.
+/// Two goroutines meet that were found to be able to: only a lack of memory is left to go wrong.
 fn meet_found<R: Running>(
     alloc: Global,
     run: &mut R,

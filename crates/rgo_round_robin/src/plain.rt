@@ -36,11 +36,18 @@ fn without_regions(stop: TurnEnd) -> TurnEnd
 {
     match stop {
         TurnEnd::NoRoom(_) => TurnEnd::NoMemory,
-        _ => stop,
+        TurnEnd::Spent
+        | TurnEnd::Waits
+        | TurnEnd::Printed
+        | TurnEnd::Operated(_)
+        | TurnEnd::Ended(_)
+        | TurnEnd::TooDeep
+        | TurnEnd::Full
+        | TurnEnd::NoMemory => stop,
     }
 }
 
-/// A goroutine steps alone, up to `at_most` times.
+/// A goroutine steps alone, up to `at_most` times. A step that ends a turn early may have been taken, so it is counted.
 fn turn<M: Machine>(
     alloc: Global,
     machine: &M,

@@ -39,6 +39,7 @@ fn play<R: Running, K: Sink>(
         (K.pieces out.old) (K.pieces out.new) }
 {
     let ended = take_turn(alloc, run, driver, limits, g);
+    // The print goes out before the end of the run is looked at: what was printed before a trap is written, too.
     match write_lines(run.printed(), out) {
         Ok(()) => {}
         Err(_) => return Err(RunEnd::WriteFault),
@@ -65,6 +66,7 @@ fn round<R: Running, K: Sink>(
     ensures sink { Writes (IsErrOf result RunEnd.WriteFault) (K.faults out.old) (K.faults out.new) (K.broken out.new)
         (K.pieces out.old) (K.pieces out.new) }
 {
+    // Goroutines that become ready in this round have their turns in the next, so every round ends.
     let order = mem::replace(&mut driver.ready, Vec::new(alloc));
     for i in 0..order.len() {
         match play(alloc, run, driver, limits, order[i], out) {
@@ -99,14 +101,16 @@ fn whole_round<R: Running, K: Sink>(
         Ok(()) => {}
         Err(end) => return Err(end),
     }
+    // A round with a step is progress, and the search, which asks all goroutines, is not needed.
     if driver.steps > before {
         return Ok(());
     }
     meet_any(alloc, run, driver)
 }
 
-/// A round, and whether the run continues after it.
-fn pass<R: Running, K: Sink>(
+/// A round, and whether the run continues after it. The limit of steps is tested here only: a test in every step costs more than the
+/// step.
+fn round_and_test<R: Running, K: Sink>(
     alloc: Global,
     run: &mut R,
     driver: &mut Driver,
@@ -137,7 +141,7 @@ fn pass<R: Running, K: Sink>(
     Ok(())
 }
 
-/// Rounds until the run ends.
+/// Rounds until the run ends. Each takes a step, and the steps stay below the limit, so the loop ends.
 pub(crate) fn drive<R: Running, K: Sink>(
     alloc: Global,
     run: &mut R,
@@ -155,7 +159,7 @@ pub(crate) fn drive<R: Running, K: Sink>(
         (K.pieces out.old) (K.pieces out.new) }
 {
     loop {
-        match pass(alloc, run, driver, limits, out) {
+        match round_and_test(alloc, run, driver, limits, out) {
             Ok(()) => {}
             Err(end) => return end,
         }

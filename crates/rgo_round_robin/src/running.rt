@@ -6,7 +6,7 @@ use std::alloc::{AllocError, Global};
 
 /// A run under way, as a driver takes it on: the goroutines of a machine take turns and meet. Contracts speak of each
 /// state that the run is at, and of what was printed before its print was last cleared. The run need hold neither in
-/// full.
+/// full: a world with regions drops the contents of removed regions, and a driver drops what it has written.
 pub trait Running {
     ghost use Rattle.std.specs.Prelude.{◌≡◌, ℕ, List, length, IfOk};
     ghost use Rattle.rgo_interpreter.specs.Acting.{standing};

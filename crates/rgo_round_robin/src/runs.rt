@@ -19,7 +19,8 @@ use rgo_outside::Sink;
 use std::alloc::Global;
 use std::collections::HashMap;
 
-/// The driver of a run that begins: every goroutine is ready.
+/// The driver of a run that begins: every goroutine is ready, those too that have returned. Their first turn has no step, and they
+/// have no other.
 ///
 /// # Errors
 ///

@@ -39,7 +39,12 @@ fn waits_at(stand: Stand) -> Option<usize>
             channel: Value::Object(channel),
             ..
         } => Some(channel),
-        _ => None,
+        Stand::Receive { .. }
+        | Stand::Send { .. }
+        | Stand::Close { .. }
+        | Stand::Call
+        | Stand::Start
+        | Stand::Elsewhere => None,
     }
 }
 
@@ -221,9 +226,11 @@ fn rest<R: Running>(
     ensures fixed { (R.view run.new).fixed ≡ (R.view run.old).fixed }
     ensures one { IfOk result (λ rest. IfSome rest (λ n. n ≡ left - 1)) }
 {
+    // A meeting is a step, and this turn has none left: the goroutine stays ready and tries in its next turn.
     if left == 0 {
         return Ok(Some(0));
     }
+    // It has returned, or waits at nil: it is listed nowhere, and never has a step again.
     let Some(channel) = channel_of(run, g) else {
         return Ok(None);
     };
@@ -271,6 +278,7 @@ fn take_steps<R: Running>(
     if let Some(end) = end_of(turned.stop) {
         return Err(end);
     }
+    // A turn only adds goroutines at the end, so the new ones are those from `from` on.
     let to = run.goroutines();
     match wake(alloc, driver, from, to, turned.stop) {
         Ok(()) => Ok(turned),
@@ -332,6 +340,7 @@ pub(crate) fn take_turn<R: Running>(
             None => return Ok(()),
         }
     }
+    // It has had all its steps, and may have more: only a goroutine that sleeps is left out of the next round.
     match driver.ready.push(g) {
         Ok(()) => Ok(()),
         Err(_) => Err(RunEnd::NoMemory),

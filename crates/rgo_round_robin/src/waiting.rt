@@ -6,7 +6,7 @@ ghost use Rattle.rgo_round_robin.specs.Points.{listed_at_channel};
 use std::alloc::{AllocError, Global};
 use std::collections::HashMap;
 
-/// Takes the goroutines that are listed at a channel.
+/// Takes the goroutines that are listed at a channel. The list itself moves, so nothing is copied and nothing can fail.
 pub(crate) fn take_list(
     alloc: Global,
     waiting: &mut HashMap<usize, Vec<usize>>,

@@ -1,4 +1,7 @@
--- A machine that follows another, goroutine by goroutine, simulates it.
+-- A machine that follows another, goroutine by goroutine, simulates it. A step of the higher one is the same step of the lower one, or
+-- none, if the goroutine moved by itself. For a step of the lower one the goroutines that it names are settled first (Settling), and then
+-- both machines take it (Together). The hard case is a deadlock: in one of the higher machine no goroutine moves by itself, so all of them
+-- do the same as those of the lower one, and none of these has a step either.
 use Rattle.std.proofs.Common.{◌≡◌, ◌⊎◌, inl, inr, ⊎_elim, ℕ, suc, Bool, true, false, List, [], ◌∷◌, ◌++◌}
 use Rattle.std.proofs.Common.{length, Option, Some, None, slice_get, refl, ap, sym, ◌∙◌, subst, arith, ◌≤◌}
 use Rattle.std.specs.Prelude.{option_and_then, if◌then◌else◌, ◌==◌, nat_le, ◌&&◌}

@@ -1,4 +1,6 @@
--- A machine that follows another goes on by itself, until each of its goroutines does what that of the other does.
+-- A machine that follows another continues by itself, until each of its goroutines does what that of the other does. By induction on the
+-- size of its newest frame, which each such step makes smaller. Goroutines are settled one by one: a step by itself changes no other frames
+-- and no memory, so those that were settled before still are.
 use Rattle.std.proofs.Common.{◌≡◌, ◌⊎◌, inl, inr, ⊎_elim, ℕ, zero, suc, ◌<◌, ◌≤◌, List, [], ◌∷◌, ◌++◌}
 use Rattle.std.proofs.Common.{length, Option, Some, None, slice_get, slice_set, refl, ap, sym, ◌∙◌, subst, arith}
 use Rattle.std.specs.Prelude.{option_and_then}

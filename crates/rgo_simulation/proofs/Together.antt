@@ -1,4 +1,5 @@
--- Where the goroutines of two states do the same next, a pick has a step in both or in neither, to states that match.
+-- If the goroutines of two states do the same next, a pick has a step in both or in neither, to states that match. `Both` is this "in both
+-- or in neither" for results that may be missing, so each kind of step needs one statement and not four.
 use Rattle.std.proofs.Common.{◌≡◌, ℕ, zero, suc, Bool, true, false, List, [], ◌∷◌, ◌++◌, Option, Some, None}
 use Rattle.std.proofs.Common.{slice_get, slice_set, option_map, refl, ap, sym, subst}
 use Rattle.std.specs.Prelude.{option_and_then, if◌then◌else◌, ◌==◌}

@@ -1,5 +1,5 @@
 -- When one machine follows another: from goroutines that match, the higher one moves by itself for a while, and then both
--- do the same.
+-- do the same. It is about one goroutine of each machine; what several do to each other is the same for both machines, so it follows.
 use Rattle.std.specs.Prelude.{◌≡◌, ◌<◌, ◌⊎◌, ℕ, List, [], ◌∷◌, length, Option}
 use Rattle.rgo_memory.specs.declared.values.Value.{Value}
 use Rattle.rgo_memory.specs.Memory.{Memory}
@@ -23,7 +23,7 @@ module _ {F G : Type 0} (high : Machine F) (low : Machine G) (Matched : List F �
     ActAlike (Traps trap place) (Traps other at) = (other ≡ trap) × (at ≡ place)
     ActAlike _ _ = ⊥
 
-    -- both are before the same, and match after it
+    -- Both are before the same, and match after it, whatever value a receive returns: which one depends on other goroutines.
     abbrev pub StandAlike : Stand F → Stand G → Type 0
     StandAlike (AtReceive c blank k) (AtReceive d other l) =
         (d ≡ c) × (other ≡ blank) × ((v : Value) → Matched (k v ∷ callers) (l v ∷ lows))
@@ -41,7 +41,9 @@ module _ {F G : Type 0} (high : Machine F) (low : Machine G) (Matched : List F �
       pub stands : StandAlike (high.stand f) (low.stand g)
       pub acts : high.stand f ≡ Elsewhere → (m : Memory) → ActAlike (high.act m f) (low.act m g)
 
-    -- the higher frame moves by itself, over any memory, and gets smaller
+    -- The higher frame moves by itself, over any memory, and gets smaller: without that it could move for ever, and
+    -- the lower machine's step would have no match. It leaves the memory as it is, so no other goroutine can see that it
+    -- moved.
     pub record Stutters (size : F → ℕ) (f : F) (g : G) : Type 0 where
       pub next : F
       pub elsewhere : high.stand f ≡ Elsewhere
@@ -52,5 +54,5 @@ module _ {F G : Type 0} (high : Machine F) (low : Machine G) (Matched : List F �
   pub record Follows (size : F → ℕ) : Type 0 where
     pub step : (f : F) (callers : List F) (g : G) (lows : List G) → Matched (f ∷ callers) (g ∷ lows)
         → Stutters callers lows size f g ⊎ Together callers lows f g
-    -- goroutines that match have as many frames
+    -- goroutines that match have as many frames, so that both meet the limit on calls at the same time
     pub depth : (fs : List F) (gs : List G) → Matched fs gs → length gs ≡ length fs

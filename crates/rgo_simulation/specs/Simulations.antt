@@ -8,7 +8,8 @@ use Rattle.rgo_machine.specs.Machines.{Machine, State, step_by}
 use Rattle.rgo_machine.specs.Runs.{Leads}
 use Rattle.rgo_simulation.specs.Follows.{Follows}
 
--- An observer sees the same of both states: the print, how the run ended, and a deadlock of the first in the second.
+-- An observer sees the same of both states: the print, how the run ended, and a deadlock of the first in the second. Steps are not seen:
+-- the machines take different numbers of them.
 pub record IsSeenAs {F G : Type 0} (high : Machine F) (low : Machine G) (s : State F) (t : State G) : Type 0 where
   pub printed : t.printed ≡ s.printed
   pub ended : t.ended ≡ s.ended
@@ -24,7 +25,8 @@ abbrev pub RunsWithinAs : {F G : Type 0} → Limits → Machine F → State F �
 RunsWithinAs limits high s low t0 =
     (t : State _) × (picks : List Pick) × LeadsWithin low limits t0 picks t × IsSeenAs high low s t
 
--- both machines have the same runs to an observer, from these two states on
+-- Both machines have the same runs to an observer, from these two states on. `forward` says that no behaviour is lost, `backward` that none
+-- is added; and each holds within limits, too, which does not follow, since a run within them needs one within them on the other side.
 pub record Simulates {F G : Type 0} (high : Machine F) (low : Machine G) (s0 : State F) (t0 : State G) : Type 0 where
   pub forward : (picks : List Pick) (s : State F) → Leads (step_by high) s0 picks s → RunsAs high s low t0
   pub backward : (picks : List Pick) (t : State G) → Leads (step_by low) t0 picks t → RunsAs low t high s0

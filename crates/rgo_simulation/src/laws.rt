@@ -15,7 +15,8 @@ pub trait Following {
     ghost matched: { List Self.High → List Self.Low → Type 0 };
 }
 
-/// A machine that follows another simulates it.
+/// A machine that follows another simulates it, in both directions. The proof of a lowering needs to look at one goroutine at a
+/// time: what goroutines do to each other is the same for both machines, and is proved here once.
 pub fn following_simulates<F: Following>()
     ensures { (high : spec.Machine F.High) (low : spec.Machine F.Low) → FollowingSimulates high low F.matched }
 {}

@@ -1,4 +1,4 @@
--- What answers of the code say of a change.
+-- What a result of the code says about a change: all of it or, on allocation failure, nothing. So a step that fails can be left out.
 use Rattle.std.specs.Prelude.{◌≡◌, Result, Ok, Err}
 use Rattle.std.specs.declared.alloc.AllocError.{AllocError}
 

@@ -1,4 +1,4 @@
--- How the logic stores a frame: as a tree of numbers, from which the frame can be told.
+-- How the logic stores a frame: as a tree of numbers that determines the frame.
 use Rattle.std.specs.Prelude.{◌≡◌, ℕ, zero, suc, List, [], ◌∷◌, Option, Some, None, refl}
 use Rattle.std.proofs.Common.{ap, arith}
 use Rattle.std.specs.Coded.{Coded, code_by, coded×, coded_ℕ, coded_list}

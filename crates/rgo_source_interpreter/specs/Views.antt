@@ -1,4 +1,4 @@
--- The view of what is to do: of the code's references, the plain data that contracts say of them.
+-- The view of what is to do: the plain data that contracts see of the code's references into the typed tree.
 use Rattle.std.specs.Prelude.{map}
 use Rattle.rgo_typed.specs.Tree.{terms_of, stmts_of}
 use Rattle.rgo_typed.specs.Views as typed

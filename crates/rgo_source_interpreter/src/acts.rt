@@ -1,4 +1,4 @@
-//! What a frame does by itself: the first thing that it has to do.
+//! What a frame does by itself: the first thing that it has to do. What can fail comes before what changes, in each function.
 
 ghost use Rattle.std.specs.Prelude.{◌≡◌, ◌<◌, ℕ, List, [], ◌∷◌, drop, length};
 ghost use Rattle.rgo_typed.specs.Views.{typed_of};
@@ -86,7 +86,8 @@ fn affect(
     }
 }
 
-/// Writes the first of these fields of a new object; if there is none, the object replaces the values.
+/// Writes the first of these fields of a new object; if there is none, the object replaces the values. One field is one step, since
+/// a step writes at most one cell.
 fn fill<'a>(
     alloc: Global,
     structs: &[Struct],
@@ -181,7 +182,16 @@ fn move_on<'a>(frame: &mut Frame<'a>, todo: Todo<'a>) -> Result<(), AllocError>
             frame.advance(count);
             Ok(())
         }
-        _ => {
+        Todo::Perform(_, _, _, _)
+        | Todo::Affect(_, _, _)
+        | Todo::Settle
+        | Todo::Create(_)
+        | Todo::Fill(_, _, _)
+        | Todo::Write(_, _)
+        | Todo::Close
+        | Todo::Onward
+        | Todo::Leave
+        | Todo::Stay => {
             frame.advance(0);
             Ok(())
         }

@@ -31,7 +31,8 @@ fn push_zeros(locals: &mut Vec<Value>, types: &[Type]) -> Result<(), AllocError>
     Ok(())
 }
 
-/// The frame of a function that is called with these arguments.
+/// The frame of a function that is called with these arguments. A function with a result has `Stay` below its body, which it
+/// reaches only without a return: no valid program does.
 pub fn called<'a>(
     alloc: Global,
     function: &'a Function,

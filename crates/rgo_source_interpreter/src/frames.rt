@@ -71,7 +71,7 @@ pub enum Todo<'a> {
 }
 
 /// The local variables by number, the values that are not used yet, and what is to do. If nothing is to do, the
-/// function returns.
+/// function returns. What is to do refers into the typed tree: with copies a step would cost more in a large program.
 #[derive(Drop)]
 pub struct Frame<'a> {
     pub(crate) locals: Vec<Value>,
@@ -93,7 +93,7 @@ impl<'a> Model for Frame<'a> {
 }
 
 impl<'a> Frame<'a> {
-    /// The first thing to do.
+    /// The first thing to do. It is copied out, so that the frame can be changed while it is done.
     pub(crate) fn first(&self) -> Option<Todo<'a>>
         ensures { MatchOption result (self.now.todo ≡ [])
             (λ item. self.now.todo ≡ todo_of item ∷ drop 1 self.now.todo) }
@@ -159,7 +159,7 @@ impl<'a> Frame<'a> {
         Ok(())
     }
 
-    /// Replaces the first thing by this one.
+    /// Replaces the first thing by this one. It needs no memory: callers have changed the memory of the run by then, and must not fail.
     pub(crate) fn set_first(&mut self, item: Todo<'a>)
         requires { 0 < length self.old.todo }
         ensures { self.new ≡ spec.frame_with_todo self.old 0 [] (todo_of item.entry ∷ drop 1 self.old.todo) }
@@ -190,7 +190,7 @@ impl<'a> Frame<'a> {
         self.values.repeat(count)
     }
 
-    /// Drops the newest value.
+    /// Drops the newest value: the place that was made for a result, after a trap or an allocation failure.
     pub(crate) fn pop(&mut self)
         ensures { self.new ≡ spec.frame_with_todo self.old 1 [] self.old.todo }
     {

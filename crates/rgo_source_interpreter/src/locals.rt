@@ -1,4 +1,5 @@
-//! Local variables by number.
+//! Local variables by number. A number without a variable reads as nil and is added when it is assigned, so that no clause has to
+//! bound the numbers of a tree.
 
 ghost use Rattle.std.specs.Prelude.{◌≡◌};
 ghost use Rattle.rgo_source_interpreter.specs.Changes.{Changes};
@@ -28,6 +29,7 @@ pub fn set_local(locals: &mut Vec<Value>, n: usize, value: Value) -> Result<(), 
     let Some(missing) = (n - locals.len()).checked_add(1) else {
         return Err(AllocError);
     };
+    // All room at once: with less, a failure would leave some of the variables added.
     locals.reserve(missing)?;
     while locals.len() < n {
         locals.push_reserved(Value::Nil);

@@ -1,4 +1,4 @@
-//! The source machine: what programs mean, as a machine.
+//! The source machine, one frame at a time: steps, meetings and turns are those of rgo_interpreter.
 
 ghost use Rattle.std.specs.Prelude.{◌≡◌, codes, IfOk, OnOk, OnErr, map, option_to_list};
 ghost use Rattle.rgo_typed.specs.Views.{typed_of, typed_function_of};

@@ -1,4 +1,5 @@
-//! A list that grows and shrinks at one end. Contracts see it with the newest first.
+//! A list that grows and shrinks at one end. Contracts see it with the newest first, as the definition has it; the newest item is last
+//! in memory, where a list grows.
 #![tactic(auto, using(crate::proofs::Stacks::stacks))]
 
 ghost use Rattle.std.specs.Prelude.{◌≡◌, [], ◌∷◌, ◌++◌, drop, take, length, reverse, slice_get, MatchOption};
@@ -8,7 +9,7 @@ ghost use Rattle.rgo_meaning.specs.Frames.{replaced};
 use std::alloc::{AllocError, Global};
 use std::marker::Model;
 
-/// Items, of which the newest is at hand.
+/// Items, of which the newest is at hand. A type of its own and not a list, so that clauses need not reverse it.
 #[derive(Drop)]
 pub struct Stack<T> {
     items: Vec<T>,
@@ -109,6 +110,7 @@ impl<T: Copy + Drop> Stack<T> {
     pub fn put(&mut self, count: usize, items: &[T]) -> Result<(), AllocError>
         ensures { Changes result self.old self.new (items.now ++ drop count self.old) }
     {
+        // Before the old items are dropped, so that nothing has changed if there is no memory.
         self.items.reserve(items.len())?;
         self.items.truncate(self.items.len().saturating_sub(count));
         let mut left = items.len();

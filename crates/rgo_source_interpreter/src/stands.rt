@@ -32,7 +32,7 @@ fn stand_before(program: &Typed, frame: &Frame<'_>, todo: Todo<'_>) -> Stand
     }
 }
 
-/// Where a frame stands.
+/// Where a frame is.
 pub fn stand(program: &Typed, frame: &Frame<'_>) -> Stand
     ensures { result ≡ stand_of (spec.source_stand (typed_of program.now) frame.now) }
 {
@@ -62,7 +62,8 @@ fn pass_before(frame: &mut Frame<'_>, todo: Todo<'_>, value: Value)
     }
 }
 
-/// A frame continues after an operation on a channel that gave this value.
+/// A frame continues after an operation on a channel that returned this value. It replaces the operands, so no memory is needed: a
+/// meeting cannot fail.
 pub fn pass(frame: &mut Frame<'_>, value: Value)
     ensures { (program : tree.Typed) → frame.new ≡ frame_after_operation frame.old value (spec.source_stand program frame.old) }
 {

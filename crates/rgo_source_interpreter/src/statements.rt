@@ -117,7 +117,8 @@ pub fn again<'a>(
     ])
 }
 
-/// Drops what is to do in the innermost loop, and the loop itself.
+/// Drops what is to do in the innermost loop, and the loop itself. `Again` is its end: the first one on the way belongs to the
+/// innermost loop.
 fn leave_loop(frame: &mut Frame<'_>)
     ensures { frame.new ≡ frame_with_todo frame.old 0 [] (todos.after_break frame.old.todo) }
 {
@@ -131,7 +132,7 @@ fn leave_loop(frame: &mut Frame<'_>)
     }
 }
 
-/// Drops what is to do in the innermost loop before its post statement.
+/// Drops what is to do in the innermost loop before its post statement, which `Again` still does.
 fn next_turn(frame: &mut Frame<'_>)
     ensures { frame.new ≡ frame_with_todo frame.old 0 [] (todos.after_continue frame.old.todo) }
 {
@@ -183,7 +184,15 @@ fn execute_flow<'a>(frame: &mut Frame<'a>, stmt: &'a Stmt) -> Result<(), AllocEr
             Ok(())
         }
         Stmt::Return(value, _) => return_with(frame, value),
-        _ => {
+        Stmt::Declare(_, _, _, _)
+        | Stmt::Assign(_, _, _)
+        | Stmt::Zero(_, _, _)
+        | Stmt::Perform(_, _, _)
+        | Stmt::Update { .. }
+        | Stmt::Discard(_)
+        | Stmt::Invoke(_, _, _)
+        | Stmt::Go(_, _, _)
+        | Stmt::Print(_, _, _) => {
             frame.advance(0);
             Ok(())
         }

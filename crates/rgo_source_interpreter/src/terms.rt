@@ -1,4 +1,4 @@
-//! What terms leave to do.
+//! What terms leave to do: their parts first, in order, and then what is done with the values.
 
 ghost use Rattle.std.specs.Prelude.{◌≡◌, [], drop, map};
 ghost use Rattle.rgo_typed.specs.Views as typed;
@@ -67,7 +67,7 @@ pub fn is_newest_true(frame: &Frame<'_>) -> bool
     is_true(frame.value(0))
 }
 
-/// The right side of `&&` or `||`, or nothing.
+/// The right side of `&&` or `||`, or nothing: if the left side decides, its value stays as that of the whole.
 pub fn decide<'a>(frame: &mut Frame<'a>, op: Logical, right: &'a Term) -> Result<(), AllocError>
     ensures { Changes result frame.old frame.new
         (spec.decided op (typed.term_of right.now) (drop 1 frame.old.todo) frame.old

@@ -7,7 +7,7 @@ use Rattle.rgo_tac.specs.declared.flow.Targets.TheVariants.{Nowhere, One, Either
 use Rattle.rgo_tac.specs.Code.{Op, Do, Call, Go, Print, Jump, Branch, Return}
 use Rattle.rgo_tac.specs.Ops.{numbers_of}
 
--- the variables that it reads, in order
+-- The variables that it reads, in order: those of a call are the arguments, by the number of the parameter.
 abbrev pub reads : Op → List ℕ
 reads (Do to action from) = from
 reads (Call to function from) = from
@@ -27,7 +27,8 @@ writes (Jump target) = None
 writes (Branch test target other) = None
 writes (Return value) = None
 
--- the instructions that may be next after the one of this number
+-- The instructions of the function that may be next after the one of this number: a call leads to the one after it, where the frame
+-- continues when the callee has returned.
 abbrev pub leads_to : Op → (at : ℕ) → List ℕ
 leads_to (Jump target) at = target ∷ []
 leads_to (Branch test target other) at = target ∷ other ∷ []

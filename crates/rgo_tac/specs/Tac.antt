@@ -7,16 +7,19 @@ use Rattle.rgo_tac.specs.Code.{TacFn, Tac}
 use Rattle.rgo_tac.specs.Frames.{TacFrame, new_tac_frame}
 use Rattle.rgo_tac.specs.Steps.{tac_act, tac_stand, tac_resumed}
 
+-- goroutines over one memory, whose frames are at instructions
 abbrev pub TacState : Type 0
 TacState = State TacFrame
 
+-- the machine that does the instructions of this code
 abbrev pub tac : Tac → Machine TacFrame
 tac code = record { act = tac_act code; stand = tac_stand code; resume = tac_resumed code }
 
+-- the state after this pick, if it has a step
 abbrev pub tac_step : Tac → TacState → Pick → Option TacState
 tac_step code = step_by (tac code)
 
--- the frame of the first function named `main`, if there is one, where the first of these functions has number n
+-- the frame of the first function named `main`, if there is one; the first of these functions has number n
 abbrev pub tac_main_frames : List TacFn → (n : ℕ) → List TacFrame
 tac_main_frames [] n = []
 tac_main_frames (fn ∷ fns) n = if bytes_eq fn.name (codes "main") then new_tac_frame fn n [] ∷ [] else tac_main_frames fns (suc n)

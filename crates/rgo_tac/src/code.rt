@@ -1,19 +1,21 @@
-//! Three-address code. The variables of a function, and its instructions, are numbered from 0.
+//! Three-address code as it is kept: flat instructions, which an interpreter reads fast. Clauses see the seven kinds of operation of
+//! `specs/Code.antt`; `ops.rt` decodes. The variables of a function, and its instructions, are numbered from 0.
 
 use rgo_ast::Place;
 use rgo_typed::{Piece, Row};
 
 /// An instruction, by the numbers of its variables: first the one that is given a value, then the operands. It takes 16
-/// bytes; what does not fit stands in its function.
+/// bytes, with a variant for each operator: one load and one jump per instruction, where operators as operands and lists inside
+/// took twice the time. What does not fit is in the `Body`, by number.
 #[derive(Clone, Copy)]
 pub enum Instr {
     Int(u32, i64),
     Bool(u32, bool),
     Nil(u32),
     Copy(u32, u32),
-    /// As `Copy`, where both variables are integers.
+    /// As `Copy`, for two integers: an interpreter can copy the parts of the value. It means what `Copy` means.
     CopyInt(u32, u32),
-    /// As `Copy`, where both variables are truth values.
+    /// As `Copy`, for two truth values.
     CopyBool(u32, u32),
     Add(u32, u32, u32),
     Sub(u32, u32, u32),
@@ -67,7 +69,7 @@ pub enum Instr {
 #[derive(Drop)]
 pub struct Body {
     pub instrs: Row<Instr>,
-    /// The place of each instruction.
+    /// The place of each instruction. Apart from the instructions, since a loop that executes them does not read it.
     pub places: Row<Place>,
     /// The variables that calls, starts and prints take.
     pub lists: Row<Row<u32>>,

@@ -1,4 +1,4 @@
-//! Copies of what typed trees and code contain.
+//! Copies of what typed trees and code contain: code owns all that it needs, so it outlives the tree from which it is made.
 
 ghost use Rattle.std.specs.Prelude.{◌≡◌, IfOk};
 

@@ -1,4 +1,4 @@
-//! Copies of three-address code.
+//! Copies of three-address code. Code with regions begins as a copy: what it was made from stays as it is.
 
 ghost use Rattle.std.specs.Prelude.{◌≡◌, IfOk};
 
@@ -55,6 +55,7 @@ fn copy_function(alloc: Global, function: &TacFn) -> Result<TacFn, AllocError>
     let result_type = copy_result(alloc, &function.result_type)?;
     let variables = copy_types(alloc, function.variables.items())?;
     let body = copy_body(alloc, &function.body)?;
+    // It has as many variables and instructions as its original, so they have numbers.
     TacFn::of(
         alloc,
         name,

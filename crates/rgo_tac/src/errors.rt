@@ -9,7 +9,8 @@ use std::alloc::AllocError;
 #[derive(Clone, Copy, Debug, PartialEq, Eq)]
 pub enum FunctionError {
     NoMemory,
-    /// It would have more variables or instructions than numbers of 32 bits can name.
+    /// It would have more variables or instructions than numbers of 32 bits can name. An error here, and a property of the type from
+    /// then on, so that no layer above tests it again.
     TooLarge,
 }
 

@@ -7,7 +7,8 @@ ghost use Rattle.rgo_tac.specs.Ops.{operation_of};
 
 use crate::ops::{Op, Operands};
 
-/// The variables that an instruction reads, in order.
+/// The variables that an instruction reads, in order. Two forms, so that neither needs an allocation: those of an action are in the
+/// instruction, those of a call are borrowed from its list.
 #[derive(Clone, Copy)]
 pub enum ReadVariables<'a> {
     Few(Operands),

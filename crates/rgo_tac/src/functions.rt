@@ -19,7 +19,7 @@ use rgo_typed::{Row, Type};
 use std::alloc::{AllocError, Global};
 use std::marker::Model;
 
-/// A function.
+/// A function. What an interpreter needs at each call or loop is computed once, when the function is made.
 #[derive(Drop)]
 pub struct TacFn {
     pub(crate) name: Name,
@@ -27,9 +27,10 @@ pub struct TacFn {
     pub(crate) result_type: Option<Type>,
     pub(crate) variables: Row<Type>,
     pub(crate) body: Body,
-    /// The zeros of its variables, which are copied at each call.
+    /// The zeros of its variables: a call copies them and looks at no type.
     pub(crate) zeros: Row<Value>,
-    /// The numbers of the variables of instructions that stay in their frame are below it.
+    /// The numbers of the variables of instructions that stay in their frame are below it. One comparison of it with the length
+    /// of a frame replaces a test at each variable, see `body_within`.
     pub(crate) width: usize,
 }
 
@@ -77,10 +78,11 @@ fn place_at(places: &[Place], n: usize) -> Place
     places.get(n).copied().unwrap_or(0)
 }
 
-/// The most variables that a function may have.
+/// The most variables that a function may have. Members are numbered with them, and two members are not variables: the result and
+/// the package variables.
 const MOST_VARIABLES: usize = u32::MAX as usize - 2;
 
-/// The most instructions that a function may have.
+/// The most instructions that a function may have: their count has 32 bits, too, and so has one more.
 const MOST_INSTRS: usize = u32::MAX as usize - 1;
 
 impl TacFn {
@@ -116,7 +118,7 @@ impl TacFn {
         }
     }
 
-    /// The same of so few variables and instructions that they have numbers.
+    /// The same for variables and instructions that are known to have numbers, so that it can fail for want of memory only.
     pub(crate) fn of(
         alloc: Global,
         name: Name,
@@ -174,14 +176,15 @@ impl TacFn {
         self.variables.items()
     }
 
-    /// The zeros of its variables, which a frame of it begins with.
+    /// The zeros of its variables, with which a frame of it begins.
     pub fn zeros(&self) -> &[Value]
         ensures { result.now ≡ map zero_of self.now.variables }
     {
         self.zeros.items()
     }
 
-    /// Its body, if a frame with this many variables has all that are named by instructions which stay in the frame.
+    /// Its body, if a frame with this many variables has all that are named by instructions which stay in the frame. Called before
+    /// a loop over such instructions, which then reads variables without tests.
     #[inline(always)]
     pub fn body_within(&self, variables: usize) -> Option<&Body>
         ensures body { IfSome result (λ b. self.now.body
@@ -217,7 +220,8 @@ impl TacFn {
         self.body.instrs.items().len() as u32
     }
 
-    /// What the instruction of this number does; `None` where there is none.
+    /// What the instruction of this number does; `None` if there is none. The second clause is for callers that continue at
+    /// `n + 1`: a list has fewer than 2^63 items, so the sum does not overflow.
     #[inline(always)]
     pub fn op(&self, n: usize) -> Option<Op<'_>>
         ensures op { option_map operation_of result ≡ op_in (slice_get self.now.body n) }
@@ -229,7 +233,7 @@ impl TacFn {
         }
     }
 
-    /// The kind of the instruction of this number; `None` where there is none.
+    /// The kind of the instruction of this number; `None` if there is none. Faster than `op`, since it decodes nothing.
     pub fn kind(&self, n: usize) -> Option<Kind>
         ensures { result ≡ option_map kind_of (op_in (slice_get self.now.body n)) }
     {
@@ -239,7 +243,7 @@ impl TacFn {
         }
     }
 
-    /// The place of the instruction of this number; 0 where there is none.
+    /// The place of the instruction of this number; 0 if there is none.
     pub fn place(&self, n: usize) -> Place
         ensures { result ≡ place_in (slice_get self.now.body n) }
     {

@@ -1,4 +1,5 @@
-//! Instructions by what they do: the compact ones, decoded.
+//! Instructions by what they do: the compact ones, decoded. A pass that treats all operators alike matches on these seven kinds and
+//! not on the variants of `Instr`.
 
 ghost use Rattle.std.specs.Prelude.{◌≡◌, ℕ, List, [], length, get_or, slice_get, Some, None};
 ghost use Rattle.rgo_typed.specs.declared.statements.Piece as piece;
@@ -51,7 +52,8 @@ pub enum Op<'a> {
     Return(Option<u32>),
 }
 
-/// Instructions by what regions have to do with them.
+/// Instructions by what regions have to do with them: a call and a start pass regions on, a branch and a return release them on a
+/// way out, and all others are one kind.
 #[derive(Clone, Copy, Debug, PartialEq, Eq)]
 pub enum Kind {
     Call,
@@ -90,7 +92,7 @@ impl Operands {
     }
 }
 
-/// The items of the list of this number; none where there is no such list.
+/// The items of the list of this number; none if there is no such list, which no lowered code names.
 #[inline(always)]
 pub fn items_at<T>(lists: &[Row<T>], n: u32) -> &[T]
     ensures { result.now ≡ get_or lists.now n [] }
@@ -101,7 +103,7 @@ pub fn items_at<T>(lists: &[Row<T>], n: u32) -> &[T]
     }
 }
 
-/// An action that gives a value.
+/// An action that returns a value.
 #[inline(always)]
 fn give<'a>(to: u32, action: Action, from: Operands) -> Op<'a>
     ensures { operation_of result ≡ Do (Some to) action (numbers_of from) }
@@ -113,7 +115,7 @@ fn give<'a>(to: u32, action: Action, from: Operands) -> Op<'a>
     }
 }
 
-/// An action that gives none.
+/// An action that returns none.
 #[inline(always)]
 fn affect<'a>(action: Action, from: Operands) -> Op<'a>
     ensures { operation_of result ≡ Do None action (numbers_of from) }
@@ -201,7 +203,7 @@ pub fn decode(body: &Body, instr: Instr) -> Op<'_>
     }
 }
 
-/// The kind of an instruction, which its lists do not matter for.
+/// The kind of an instruction. It does not depend on the lists, so it is known without the body.
 pub(crate) fn instr_kind(instr: Instr) -> Kind
     ensures { (lists : List (List ℕ)) (pieces : List (List piece.Piece)) → result ≡ kind_of (op_of lists pieces instr) }
 {

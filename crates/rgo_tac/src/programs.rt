@@ -59,7 +59,7 @@ impl Tac {
     {
         self.functions.items()
     }
-    /// The body of the function of this number.
+    /// The body of the function of this number, as it is coded: for interpreters, which decode an instruction only if they have to.
     pub fn body(&self, function: usize) -> Option<&Body>
         ensures { MatchOption result (slice_get self.now.functions function ≡ None)
             (λ b. option_map (λ f. f.body) (slice_get self.now.functions function)

@@ -1,4 +1,5 @@
-//! Which variables instructions force into one region.
+//! Which variables instructions force into one region. A region is removed as a whole, so what an object refers to has to be in the
+//! region of the object, or one of the two would be gone while the other is still used.
 
 ghost use Rattle.std.specs.Prelude.{◌≡◌, Some};
 ghost use Rattle.rgo_tac.specs.Joins as spec;
@@ -19,9 +20,9 @@ pub enum Member {
 /// The class of a member: those of one class are in one region.
 #[derive(Clone, Copy, Debug, PartialEq, Eq)]
 pub enum Class {
-    /// It is no pointer, slice or channel.
+    /// It is not a pointer, slice or channel, so it needs no region.
     NoClass,
-    /// The class of the package variables, whose region is never given back.
+    /// The class of the package variables. Its region is never removed: any function may still read them.
     Global,
     /// The class of this number in its function.
     Name(u32),
@@ -90,7 +91,8 @@ fn op_joins(op: Op<'_>) -> Option<(Member, Member)>
     }
 }
 
-/// Whether a member is a pointer, a slice or a channel, or the package variables.
+/// Whether a member is a pointer, a slice or a channel, or the package variables. Those count whatever their types are, since they
+/// are one member together.
 pub fn is_pointer_like(function: &TacFn, member: Member) -> bool
     ensures { result ≡ spec.is_pointer_like_member function.now member }
 {
@@ -108,7 +110,8 @@ pub fn is_pointer_like(function: &TacFn, member: Member) -> bool
 }
 
 /// The two that an instruction of this function joins. A call joins what the summary of its callee says, and none by
-/// itself.
+/// itself: this function knows no other function. Two that are not both pointer-like are not joined, so that copies of integers
+/// join nothing.
 pub fn joins(function: &TacFn, op: Op<'_>) -> Option<(Member, Member)>
     ensures { result ≡ spec.joins function.now (operation_of op.entry) }
 {

@@ -1,4 +1,5 @@
-//! The least bound that the numbers of variables are below: of the instructions that stay in their frame.
+//! A bound that the numbers of variables are below, for the instructions that stay in their frame. Only these are executed without
+//! tests; calls, starts, prints and returns read variables by the general way.
 
 ghost use Rattle.std.specs.Prelude.{◌≤◌};
 ghost use Rattle.rgo_tac.specs.Ops.{numbers_of, operation_of};

@@ -11,7 +11,7 @@ abbrev pub has_moved : Result Did AllocError → Bool
 has_moved (Ok did.Moves) = true
 has_moved _ = false
 
--- a frame that stood elsewhere went on; or nothing changed
+-- a frame that was elsewhere continued; or nothing changed
 abbrev pub FrameContinues : Bool → Stand TacFrame → Act TacFrame → (m n : Memory) (f g : TacFrame) → Type 0
 FrameContinues true stand act m n f g = (stand ≡ Elsewhere) × (act ≡ Moves n g)
 FrameContinues false stand act m n f g = (n ≡ m) × (g ≡ f)

@@ -25,7 +25,8 @@ use rgo_tac::{Instr, Op, Operands, Tac};
 use rgo_typed::{Action, Piece, Type};
 use std::alloc::{AllocError, Global};
 
-/// The type of the variable to which a value goes; `none` where there is no such variable.
+/// The type of the variable to which a value goes; `none` if there is no such variable. `none` is passed in, since the result is
+/// borrowed.
 fn type_of<'a>(code: &'a Tac, frame: &Frame, to: Option<u32>, none: &'a Type) -> &'a Type
     requires { none.now ≡ actions.no_type }
     ensures { result.now ≡ spec.destination_type code.now frame.now to }
@@ -42,7 +43,7 @@ fn type_of<'a>(code: &'a Tac, frame: &Frame, to: Option<u32>, none: &'a Type) ->
     }
 }
 
-/// An action on variables, at a place of the text.
+/// An action on variables, at a place of the text. The frame changes last: a trap, or an allocation failure, leaves it as it was.
 pub(crate) fn operate(
     alloc: Global,
     code: &Tac,
@@ -86,6 +87,7 @@ fn write(
 {
     let mut values = Vec::new(alloc);
     push_values(&mut values, frame, from)?;
+    // The line before the frame: if there is no memory for it, the frame is still before the print.
     write_line(out, pieces, &values)?;
     frame.advance();
     Ok(Did::Prints)
@@ -107,6 +109,8 @@ fn act_before(
 {
     match op {
         Op::Do { to, action, from } => operate(alloc, code, memory, frame, to, action, from, at),
+        // Only if the function does not exist: the frame is else at a call or a start, which the machine does. Lowered code has
+        // no such call.
         Op::Call { .. } | Op::Go { .. } => {
             frame.advance();
             Ok(Did::Moves)
@@ -134,7 +138,7 @@ fn act_before(
     }
 }
 
-/// The next instruction of a frame; without one it stays as it is.
+/// The next instruction of a frame; without one it stays as it is, which never happens in lowered code.
 pub(crate) fn act(
     alloc: Global,
     code: &Tac,
@@ -152,7 +156,7 @@ pub(crate) fn act(
     }
 }
 
-/// The variable to which a call gives its result.
+/// The variable to which a call assigns its result.
 fn target_of(instr: Instr) -> Option<u32>
     ensures { (lists : List (List ℕ)) (pieces : List (List Piece))
         → result ≡ spec.target_of (op_of lists pieces instr) }
@@ -163,8 +167,8 @@ fn target_of(instr: Instr) -> Option<u32>
     }
 }
 
-/// A caller continues after its call, with the result or without one. It is done at each return, so that the
-/// instruction is not decoded.
+/// A caller continues after its call, with the result or without one. Where the result goes is read from the call again, so a
+/// frame keeps nothing for it. This happens at each return, so the instruction is not decoded.
 pub(crate) fn resume(code: &Tac, frame: &mut Frame, value: Option<Value>)
     ensures { frame.new ≡ spec.tac_resumed code.now frame.old value }
 {

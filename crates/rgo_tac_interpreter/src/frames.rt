@@ -27,7 +27,7 @@ impl Model for Frame {
     ghost view = { λ f. record { function = f.function; next = f.next; variables = f.variables.items } };
 }
 
-/// Up to three values.
+/// Up to three values, as many as an action takes: a list would allocate at each step.
 #[derive(Drop)]
 pub(crate) struct Values {
     items: [Value; 3],
@@ -64,7 +64,7 @@ pub(crate) fn value_at(variables: &[Value], n: u32) -> Value
     }
 }
 
-/// Gives a variable a value, if there is one of this number.
+/// Assigns a value to a variable, if there is one of this number.
 #[inline(always)]
 #[tactic(auto, using(std::proofs::lemmas::List::set_past))]
 pub(crate) fn set_at(variables: &mut [Value], n: u32, value: Value)
@@ -76,7 +76,7 @@ pub(crate) fn set_at(variables: &mut [Value], n: u32, value: Value)
     }
 }
 
-/// Appends the zeros after the first `count`.
+/// Appends the zeros after the first `count`: the variables after the parameters.
 fn push_zeros(values: &mut Vec<Value>, zeros: &[Value], count: usize) -> Result<(), AllocError>
     ensures { OnOk result (values.new.items ≡ values.old.items ++ drop count zeros.now) }
 {
@@ -126,7 +126,7 @@ impl Frame {
         self.next = n as usize;
     }
 
-    /// Continues after an instruction that gives no value.
+    /// Continues after an instruction that returns no value.
     pub(crate) fn advance(&mut self)
         requires { self.old.next < 2 ^ 63 }
         ensures { self.new ≡ spec.moved_to self.old (self.old.next + 1) }
@@ -134,7 +134,7 @@ impl Frame {
         self.next += 1;
     }
 
-    /// Continues after an instruction that gives a variable this value, or none.
+    /// Continues after an instruction that assigns this value to a variable, or to none.
     pub(crate) fn go_on(&mut self, to: Option<u32>, value: Value)
         requires { self.old.next < 2 ^ 63 }
         ensures { self.new ≡ spec.frame_after_instr self.old to value }
@@ -160,7 +160,7 @@ pub(crate) fn push_values(
     Ok(())
 }
 
-/// The frame of a function that is called with these arguments.
+/// The frame of a function that is called with these arguments, whose list becomes that of its variables.
 ///
 /// # Errors
 ///

@@ -1,5 +1,5 @@
-//! The interpreter of three-address code: the machine that it is by definition, in code, and ways through many of its steps
-//! at once.
+//! The interpreter of three-address code: the three-address machine in code, step by step, and three faster ways through the steps
+//! that come most often. A faster way may refuse any step: it then changes nothing, and the caller takes the general step.
 #![tactic(auto)]
 
 mod acts;

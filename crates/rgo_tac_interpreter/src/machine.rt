@@ -1,4 +1,4 @@
-//! The three-address machine: what three-address code means, as a machine.
+//! The three-address machine, one frame at a time: steps, meetings and turns are those of rgo_interpreter.
 
 ghost use Rattle.std.specs.Prelude.{◌≡◌, zero, codes, IfOk, drop, length, option_to_list};
 ghost use Rattle.rgo_tac.specs.Tac as spec;
@@ -61,7 +61,7 @@ impl<'a> Machine for TacMachine<'a> {
     }
 }
 
-/// The frame of `main`, the first function of that name.
+/// The frame of `main`, the first function of that name. Code without one has a goroutine without frames, which has returned.
 fn main_frame(alloc: Global, code: &Tac) -> Result<Option<Frame>, AllocError>
     ensures { IfOk result (λ frame. option_to_list frame ≡ spec.tac_main_frames code.now.functions 0) }
 {

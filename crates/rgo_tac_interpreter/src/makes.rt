@@ -1,4 +1,5 @@
-//! A frame that makes an object: a step of the machine, without the tests that are needed for steps of any kind.
+//! A frame that makes an object: a step of the machine, without the tests that are needed for steps of any kind. Apart from the loop
+//! of `stretches.rt`, since it allocates.
 
 ghost use Rattle.std.specs.Prelude.{◌≡◌};
 ghost use Rattle.rgo_memory.specs.Channels.{SameChannels};
@@ -21,14 +22,14 @@ fn has_moved(did: Result<Did, AllocError>) -> bool
     match did {
         Ok(did) => match did {
             Did::Moves => true,
-            _ => false,
+            Did::Returns(_) | Did::Prints | Did::Traps(_, _) => false,
         },
         Err(_) => false,
     }
 }
 
-/// A frame makes an object, if its next instruction is one for that. Returns whether it did. If not, as without memory,
-/// nothing changed, and the step is left to the machine.
+/// A frame makes an object, if its next instruction does. Returns whether it did. If not, for example without memory, nothing
+/// changed, and the step is left to the machine. So the place that `operate` takes is never seen, and 0 does.
 pub fn make_object(alloc: Global, code: &Tac, frame: &mut Frame, memory: &mut Memory) -> bool
     ensures goes { FrameContinues result (spec.tac_stand code.now frame.old) (spec.tac_act code.now (memory_view memory.old) frame.old)
         (memory_view memory.old) (memory_view memory.new) frame.old frame.new }

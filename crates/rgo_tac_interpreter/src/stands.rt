@@ -1,4 +1,4 @@
-//! Where frames stand, and how they continue from there.
+//! Where frames are, and how they continue from there.
 
 ghost use Rattle.std.specs.Prelude.{◌≡◌, ◌<◌, ◌^◌, ℕ, Some, None, slice_get, IfSome, IfOk, MatchOption};
 ghost use Rattle.std.specs.Option.{option_map};
@@ -58,7 +58,7 @@ pub(crate) fn next_of<'a>(code: &'a Tac, frame: &Frame) -> Option<Next<'a>>
     })
 }
 
-/// The zero of the type of the variable to which a value goes.
+/// The zero of the type of the variable to which a value goes: what a receive from a closed channel returns.
 fn blank(code: &Tac, frame: &Frame, to: Option<u32>) -> Value
     ensures { result ≡ zero_of (spec.destination_type code.now frame.now to) }
 {
@@ -94,7 +94,7 @@ fn stand_before(code: &Tac, frame: &Frame, op: Op<'_>, at: Place) -> Stand
     }
 }
 
-/// Where a frame stands.
+/// Where a frame is.
 pub(crate) fn stand(code: &Tac, frame: &Frame) -> Stand
     ensures { result ≡ stand_of (spec.tac_stand code.now frame.now) }
 {
@@ -157,6 +157,7 @@ fn enter_before(
         (spec.stand_before_op code.now frame.old (operation_of op.entry) at) }
 {
     match op {
+        // The caller stays at its call: `resume` moves it when the callee has returned. A start moves at once, below.
         Op::Call { function, from, .. } => begin(alloc, code, frame, function, from),
         Op::Go { function, from } => {
             let begun = begin(alloc, code, frame, function, from)?;

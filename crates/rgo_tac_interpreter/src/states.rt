@@ -1,4 +1,4 @@
-//! Runs of three-address code, step by step.
+//! Runs of three-address code, step by step, by picks from outside: a replay takes those of a journal.
 
 ghost use Rattle.std.specs.Prelude.{◌≡◌, IfOk};
 ghost use Rattle.rgo_interpreter.specs.Acting.{MachineSteps};
@@ -57,7 +57,7 @@ pub fn tac_printed<'s>(state: &'s TacState<'_>) -> &'s [u8]
 ///
 /// # Errors
 ///
-/// On allocation failure: it keeps the channels at which goroutines receive.
+/// On allocation failure: the search keeps the channels at which goroutines receive.
 pub fn tac_stuck(alloc: Global, state: &TacState<'_>) -> Result<bool, AllocError>
     ensures { IfOk result (ReportsDeadlock (spec.tac state.now.code.now) state.now.state) }
 {

@@ -22,8 +22,8 @@ loop-end-init g c = record {
   sink = writes_none ⊥ _ _ _ (λ x. x);
 }
 
-pub pass-requires : goal.pass-requires
-pass-requires g c =
+pub round_and_test-requires : goal.round_and_test-requires
+round_and_test-requires g c =
     let run = g.R.Running.view c.args.run.now in
     let given = c.requires.between.given in
     let start = c.requires.between.state in
@@ -45,18 +45,18 @@ loop-end-preserved g c =
           let now = c.loop-end.invariant.goes machine given s at between in
           let next = on.plays machine (given ++ now.bytes) now.state now.at now.between in
           let p = point_of now.state c.loop-end.driver in
-          let q = point_of next.state c.pass.new.driver in
+          let q = point_of next.state c.round_and_test.new.driver in
           record {
             state = next.state;
             bytes = now.bytes ++ next.bytes;
-            at = at_later (g.R.Running.view c.pass.new.run) machine given now.bytes next.bytes next.state next.at;
+            at = at_later (g.R.Running.view c.round_and_test.new.run) machine given now.bytes next.bytes next.state next.at;
             between = record {
               ready = next.ready;
               watches = next.watches;
               counting = on.counting;
             };
             goes = progresses machine c.args.limits s p q now.bytes next.bytes (g.K.Sink.contents c.args.out.now)
-                (g.K.Sink.contents c.loop-end.out) (g.K.Sink.contents c.pass.new.out) now.goes next.plays on.below
+                (g.K.Sink.contents c.loop-end.out) (g.K.Sink.contents c.round_and_test.new.out) now.goes next.plays on.below
                 on.counting;
           };
       fixed = on.fixed ∙ c.loop-end.invariant.fixed;
@@ -67,9 +67,9 @@ loop-end-preserved g c =
 pub returns-in-Err-clause-runs : goal.returns-in-Err-clause-runs
 returns-in-Err-clause-runs g c = λ machine given s at between.
     let now = c.loop-end.invariant.goes machine given s at between in
-    runs machine c.args.limits (g.R.Running.view c.pass.new.run) given s (point_of now.state c.loop-end.driver)
+    runs machine c.args.limits (g.R.Running.view c.round_and_test.new.run) given s (point_of now.state c.loop-end.driver)
     c.in-Err.end now.bytes (g.K.Sink.contents c.args.out.now) (g.K.Sink.contents c.loop-end.out)
-    (g.K.Sink.contents c.pass.new.out) now.goes
+    (g.K.Sink.contents c.round_and_test.new.out) now.goes
     (c.in-Err.ensures.plays machine (given ++ now.bytes) now.state now.at now.between)
 
 pub returns-in-Err-clause-sink : goal.returns-in-Err-clause-sink

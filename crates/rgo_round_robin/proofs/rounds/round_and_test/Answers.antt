@@ -1,6 +1,6 @@
 use Rattle.rgo_round_robin.proofs.Given.{writes_whole}
 use Rattle.rgo_round_robin.proofs.Rounded.{finishes, spent}
-use Rattle.rgo_round_robin.proofs.rounds.pass.Goals as goal
+use Rattle.rgo_round_robin.proofs.rounds.round_and_test.Goals as goal
 
 pub returns-in-Err-clause-plays : goal.returns-in-Err-clause-plays
 returns-in-Err-clause-plays g c = λ machine given s at between.
