@@ -93,7 +93,7 @@ abbrev pub is_class : Option Class → Class → Bool
 is_class None c = false
 is_class (Some d) c = equal_classes d c
 
--- the class is passed at the place
+-- The class is passed at the place. Each name of a parameter or of the result has a place, so the first clause is never needed.
 abbrev pub is_passed_at : Option ℕ → (passes : List Class) → Class → Bool
 is_passed_at None passes c = true
 is_passed_at (Some p) passes c = is_class (slice_get passes p) c
@@ -179,7 +179,7 @@ abbrev pub has_no_names : List ℕ → Bool
 has_no_names [] = true
 has_no_names (k ∷ ks) = false
 
--- no name, or that of the result
+-- No name, or that of the result. What is live at a return is what it returns, so this says that no own name is held.
 abbrev pub is_lent : Class → Class → Bool
 is_lent result (Name k) = equal_classes result (Name k)
 is_lent result NoClass = true

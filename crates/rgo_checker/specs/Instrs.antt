@@ -4,7 +4,7 @@ use Rattle.rgo_code.specs.declared.rules.Rule.{Rule}
 use Rattle.rgo_code.specs.Checked.{KeptByInstr, KeptByEntry, rule_number}
 use Rattle.rgo_code.specs.Code.{CodeInstr, CodeFn, Code}
 
--- the rule is kept by instruction i, if it exists
+-- the rule is kept by instruction i, if it exists; like `IsKept` it unfolds only on request
 unfoldable pub InstrKept : Code → CodeFn → ℕ → Rule → Type 0
 InstrKept code f i rule = (instr : CodeInstr) → slice_get f.body i ≡ Some instr → KeptByInstr code rule f i instr
 

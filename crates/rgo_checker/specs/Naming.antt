@@ -1,4 +1,4 @@
--- The set of the names so far.
+-- The set of the names so far. It is known by its members only, since the order in which a hash set keeps them says nothing.
 use Rattle.std.specs.Prelude.{ℕ, List, [], ◌∷◌, ◌++◌, map, Bool, Contains, bytes_eq}
 use Rattle.std.specs.Bool.{Decides}
 use Rattle.std.specs.HashSet.{HashSet, contains_by}

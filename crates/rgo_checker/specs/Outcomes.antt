@@ -1,4 +1,4 @@
--- What the checker's errors say.
+-- What the checker's errors say. `NoMemory` may be returned at any allocation, so nothing is said of it.
 use Rattle.std.specs.Prelude.{◌≡◌, ◌⊎◌, ℕ, ⊤}
 use Rattle.rgo_code.specs.declared.rules.Rule.{Rule}
 use Rattle.rgo_code.specs.Checked.{IsChecked, IsFirstBroken}

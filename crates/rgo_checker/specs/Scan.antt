@@ -7,7 +7,7 @@ use Rattle.rgo_code.specs.Checked.{KeptAt, rule_number}
 use Rattle.rgo_code.specs.Code.{Code}
 use Rattle.rgo_checker.specs.declared.scan.Scan.{Scan}
 
--- the rule is kept at the line
+-- The rule is kept at the line. It unfolds only where a proof asks for it: over all rules and kinds of lines it would be large.
 unfoldable pub IsKept : Code → Rule → Line → Type 0
 IsKept code rule line = KeptAt code rule line
 
@@ -30,6 +30,7 @@ pub record BreaksFirst (code : Code) (lines : List Line) (rule : Rule) (number :
   pub is_broken : IsKept code rule at → ⊥
   pub first : (before : ℕ) (l : Line) → before < place → slice_get lines before ≡ Some l → IsKept code rule l
 
+-- the least broken rule is x, which bounds the rules that are still looked at
 pub record IsBroken (code : Code) (from to : ℕ) (lines : List Line) (limit : ℕ) (x : CodeRefusal) : Type 0 where
   pub limit_is : limit ≡ rule_number x.rule
   pub low : from ≤ limit
@@ -46,7 +47,8 @@ pub record Scanned (code : Code) (from to : ℕ) (lines : List Line) (s : Scan) 
   pub kept : AreKept code from s.limit lines
   pub broken : BrokenIs code from to lines s.limit s.broken
 
--- a walk over these lines leads from one state to another
+-- A walk over these lines leads from one state to another, whatever lines it has seen before: so walks over the parts of a text make
+-- one over all of it.
 pub record Walks (code : Code) (from to : ℕ) (lines : List Line) (old new : Scan) : Type 0 where
   pub walks : (seen : List Line) → Scanned code from to seen old → Scanned code from to (seen ++ lines) new
 

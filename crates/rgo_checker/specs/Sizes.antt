@@ -13,7 +13,8 @@ abbrev pub functions_lines : List TacFn → ℕ
 functions_lines [] = 0
 functions_lines (f ∷ fs) = function_line_count f + functions_lines fs
 
--- the greatest number of a line, that of the end of the text, does not have 32 bits
+-- The greatest number of a line, that of the end of the text, does not have 32 bits. The end counts as a line, since a missing `main` is
+-- refused there.
 abbrev pub IsTooLargeToCheck : Code → Type 0
 IsTooLargeToCheck code = 2 ^ 32 ≤ line_number code AfterLast
 

@@ -60,6 +60,7 @@ fn is_new(code: &Tac, n: usize, ty: &Type) -> bool
     is_plain(Base::Pointer(n), ty) && n < code.structs().len()
 }
 
+/// `==` and `!=` compare values of one type. As in Go, slices are compared with `nil` only, which is the action `IsNil`.
 fn compares(a: &Type, b: &Type, ty: &Type) -> bool
     ensures { result ≡ tests.compares_to_bool a.now b.now ty.now }
 {

@@ -1,4 +1,4 @@
-//! Tests that all have to hold. Each is computed, whatever the others are.
+//! Conjunctions of tests that are all computed in any case: a caller then has one path to prove, and not one for each test.
 
 ghost use Rattle.std.specs.Prelude.{◌≡◌, ◌&&◌};
 

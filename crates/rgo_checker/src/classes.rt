@@ -109,7 +109,8 @@ fn is_of_package(action: Action) -> bool
     }
 }
 
-/// Whether what an action joins has one class, except for actions on package variables.
+/// Whether what an action joins has one class, except for actions on package variables, which rule 5 is about. Calls and starts
+/// join by what they pass: rules 6 and 7.
 pub(crate) fn joins_agree(f: &CodeFn<'_>, op: Op<'_>) -> bool
     ensures { result ≡ tests.joins_agree f.now (operation_of op.entry) }
 {

@@ -12,7 +12,7 @@ use rgo_code::{CodeFn, Rule};
 use rgo_region_sets::LiveNames;
 use std::alloc::{AllocError, Global};
 
-/// Whether a rule is kept at the entry, of which only three rules say anything.
+/// Whether a rule is kept at the entry. Three rules are about that line; `KeptByEntry` holds by definition for the others.
 #[tactic(auto, unfolding(crate::specs::Instrs::EntryKept))]
 fn keeps(alloc: Global, rule: Rule, f: &CodeFn<'_>, live: &LiveNames) -> Result<bool, AllocError>
     requires { IsPreparedToCheck live.now f.now }
@@ -22,7 +22,17 @@ fn keeps(alloc: Global, rule: Rule, f: &CodeFn<'_>, live: &LiveNames) -> Result<
         Rule::Entry => entry_known(alloc, f, live),
         Rule::Lending => Ok(is_free(f.result_class(), f.entry())),
         Rule::Removals => entry_removes_dead(alloc, f, live),
-        _ => Ok(true),
+        Rule::Exists
+        | Rule::Types
+        | Rule::Classes
+        | Rule::Joins
+        | Rule::Globals
+        | Rule::Calls
+        | Rule::Starts
+        | Rule::Creations
+        | Rule::Protections
+        | Rule::Returns
+        | Rule::Endings => Ok(true),
     }
 }
 
@@ -36,6 +46,7 @@ pub(crate) fn least_broken(
     requires { IsPreparedToCheck live.now f.now }
     ensures { IfOk result (λ broken. LeastBroken (EntryKept f.now) 2 limit broken) }
 {
+    // In ascending order, so that the first broken rule is the least one.
     for number in 2..15 {
         if number >= limit {
             return Ok(None);

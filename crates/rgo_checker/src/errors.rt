@@ -1,4 +1,4 @@
-//! Why code is not checked.
+//! Why code is rejected by the checker.
 
 use rgo_code::CodeRefusal;
 use thiserror::Error;
@@ -8,7 +8,7 @@ use thiserror::Error;
 pub enum CheckError {
     #[error("out of memory")]
     NoMemory,
-    /// The code has so many lines that not all of them have numbers of 32 bits.
+    /// Not all lines of the code have numbers of 32 bits, which is known before any rule is checked.
     #[error("the code is too large")]
     TooLarge,
     /// The code breaks a rule.

@@ -32,7 +32,8 @@ fn pass_existence(scan: &mut Scan, kept: bool)
     pass(scan, broken);
 }
 
-/// The same at a line that declares a name: no line of its kind before it declares that, and what the line is about exists.
+/// The same at a line that declares a name. The name has to be new among the lines of its kind, so each kind is walked over with
+/// a set of its own: a struct and a function may have the same name.
 fn pass_name<'a>(
     names: &mut Names<'a>,
     name: &'a [u8],
@@ -115,6 +116,8 @@ fn has_body(f: &CodeFn<'_>) -> bool
     f.tac().len() > 0
 }
 
+/// A function without instructions is refused at its end: a frame of it would have no instruction to begin with, and no other
+/// line could be blamed.
 fn walk_end(code: &Code, f: &CodeFn<'_>, scan: &mut Scan)
     ensures { (n : ℕ) → slice_get code.now.functions n ≡ Some f.now
         → Walks code.now 1 2 (line.End n ∷ []) scan.old scan.new }
@@ -123,6 +126,7 @@ fn walk_end(code: &Code, f: &CodeFn<'_>, scan: &mut Scan)
     pass_existence(scan, kept);
 }
 
+/// The first rule is not about the line `entry`, but the scan has to count it.
 fn walk_entry(code: &Code, scan: &mut Scan)
     ensures { (n : ℕ) → Walks code.now 1 2 (line.Entry n ∷ []) scan.old scan.new }
 {
@@ -186,6 +190,7 @@ fn is(word: &[u8], text: &str) -> bool
     word == text.as_bytes()
 }
 
+/// The `main` that a run starts: it is called without arguments, and nothing receives a result.
 fn is_main(f: &TacFn) -> bool
     ensures { result ≡ tests.is_main_fn f.now }
 {
@@ -198,6 +203,7 @@ fn has_main(code: &Tac) -> bool
     code.functions().iter().any(|f| is_main(f))
 }
 
+/// A missing `main` is the fault of no line, so it is refused after the last one.
 fn walk_last(code: &Code, scan: &mut Scan)
     ensures { Walks code.now 1 2 (line.AfterLast ∷ []) scan.old scan.new }
 {
@@ -210,6 +216,7 @@ pub(crate) fn walk_existence(alloc: Global, code: &Code) -> Result<Option<CodeRe
     ensures { IfOk result (λ broken. MatchOption broken (KeepsRule code.now rule.Exists)
         (λ x. IsFirstBroken code.now x.rule x.line)) }
 {
+    // Line 1 is `rgo code 1`, which no rule is about. The limit admits the first rule alone.
     let mut scan = Scan {
         line: 2,
         limit: 2,

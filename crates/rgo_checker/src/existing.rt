@@ -130,6 +130,7 @@ fn field_exists(code: &Tac, f: &TacFn, action: Action, from: Operands) -> bool
     }
 }
 
+/// A call has a target exactly if the function has a result.
 fn both_or_neither(to: Option<u32>, ty: &Option<Type>) -> bool
     ensures { result ≡ tests.both_or_neither to ty.now }
 {
@@ -148,6 +149,7 @@ fn call_exists(code: &Tac, to: Option<u32>, n: u32, from: &[u32]) -> bool
     }
 }
 
+/// A start may name a function with a result here: rule 7 refuses that, with the number of its own.
 fn start_exists(code: &Tac, n: u32, from: &[u32]) -> bool
     ensures { result ≡ tests.start_exists (slice_get code.now.functions n) from.now }
 {

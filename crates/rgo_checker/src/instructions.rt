@@ -53,7 +53,8 @@ pub(crate) fn rule_of(number: u8) -> Rule
     }
 }
 
-/// Whether a rule is kept at an instruction. Two rules are about other lines alone.
+/// Whether a rule is kept at an instruction, where all lesser ones are (`before`): the test for rule 13 relies on rule 9. Two rules
+/// are about other lines alone.
 fn keeps(alloc: Global, rule: Rule, site: &Site<'_>, op: Op<'_>) -> Result<bool, AllocError>
     requires here { op_in (slice_get (erased_fn site.now.f.now).body site.now.at) ≡ Some (operation_of op) }
     requires small { site.now.at < 2 ^ 63 }
@@ -100,6 +101,7 @@ fn least_broken_by(
     ensures { IfOk result (λ broken. LeastBroken
         (InstrKept site.now.code.now site.now.f.now site.now.at) 2 limit broken) }
 {
+    // In ascending order: the first broken rule is the least one, and a test may rely on the rules before its own.
     for number in 2..15 {
         if number >= limit {
             return Ok(None);

@@ -8,7 +8,7 @@ use crate::classes::same_class;
 use rgo_code::{Class, CodeFn};
 use rgo_tac::Op;
 
-/// Whether a class has no name among these.
+/// Whether the name of a class is not among these. `NoClass` and `Global` are not names.
 pub(crate) fn is_free(class: Class, names: &[u32]) -> bool
     ensures { result ≡ tests.is_free class names.now }
 {
@@ -31,6 +31,8 @@ fn is_empty(names: &[u32]) -> bool
     names.is_empty()
 }
 
+/// The class of the result is the only name of which a variable may be live at a return: nothing runs after it that could remove the
+/// region of another.
 fn is_lent(lent: Class, class: Class) -> bool
     ensures { result ≡ tests.is_lent lent class }
 {
@@ -49,7 +51,8 @@ fn value_is_lent(f: &CodeFn<'_>, value: Option<u32>) -> bool
     }
 }
 
-/// Whether a return holds and creates nothing. What is live at a return is what it returns, so liveness is not needed.
+/// Whether, if this is a return, no name is held before it and it creates none. What is live at a return is what it returns, so
+/// liveness is not needed.
 pub(crate) fn ends_empty(f: &CodeFn<'_>, creates: &[u32], op: Op<'_>) -> bool
     ensures { result ≡ tests.ends_empty f.now creates.now (operation_of op.entry) }
 {

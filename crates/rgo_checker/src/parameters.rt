@@ -12,7 +12,8 @@ use rgo_region_sets::region_parameters;
 use std::alloc::{AllocError, Global};
 use std::collections::HashMap;
 
-/// The region parameters of a function.
+/// The region parameters of a function, and a map of their places: a call then looks up each argument's class once. Since the
+/// names are distinct, the place of a name is unique.
 #[derive(Drop)]
 pub(crate) struct Parameters {
     pub classes: Vec<Class>,

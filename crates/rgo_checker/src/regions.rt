@@ -25,7 +25,7 @@ use rgo_tac::Op;
 use std::alloc::{AllocError, Global};
 use std::collections::HashSet;
 
-/// Whether the names are the wanted ones, where both lists ascend.
+/// Whether the names are the wanted ones. Both lists ascend, so they are equal exactly if they have the same names.
 fn same_names(names: &[u32], wanted: &[u32]) -> bool
     ensures { result ≡ bytes_eq names.now wanted.now }
 {
@@ -52,6 +52,7 @@ fn parameter_names(alloc: Global, f: &CodeFn<'_>) -> Result<HashSet<u32>, AllocE
     let function = f.tac();
     let params = function.params();
     let types = function.variables();
+    // The contract does not assume rule 1, so a head may announce more parameters than there are variables.
     let count = params.min(types.len());
     for v in 0..count {
         add_name(&mut names, class_at(f, v))?;
@@ -65,7 +66,8 @@ fn all_among(held: &[u32], names: &HashSet<u32>) -> bool
     held.iter().all(|k| names.contains(k))
 }
 
-/// Whether the names that the first instruction holds are those of parameters.
+/// Whether the names that the first instruction holds are those of parameters: no other region exists at entry, so any other
+/// name would be used before it is created.
 pub(crate) fn entry_known(
     alloc: Global,
     f: &CodeFn<'_>,
@@ -79,7 +81,8 @@ pub(crate) fn entry_known(
     Ok(all_among(&held, &names))
 }
 
-/// Whether the names of parameters that die at entry are removed.
+/// Whether the names of parameters that die at entry are removed. A caller leaves regions to its callee without knowing whether
+/// the callee uses them.
 pub(crate) fn entry_removes_dead(
     alloc: Global,
     f: &CodeFn<'_>,
@@ -137,6 +140,7 @@ pub(crate) fn protects_used(
     requires prepared { IsPreparedToCheck live.now f.now }
     ensures { IfOk result (λ b. Decides b (InstrKept code.now f.now at rule.Protections)) }
 {
+    // Only calls have such a list, and the rule asks nothing of other instructions.
     if !is_call(op) {
         return Ok(true);
     }
@@ -144,6 +148,8 @@ pub(crate) fn protects_used(
     Ok(same_names(f.protects(at), &wanted))
 }
 
+/// What a call leaves to its callee. Rule 1 excludes a callee that does not exist; `IsGiven` is defined for that, too, so the
+/// contract needs no premise.
 fn given_by_call(
     alloc: Global,
     code: &Code,
@@ -193,7 +199,8 @@ fn given(
     }
 }
 
-/// Whether exactly the names that die after an instruction are removed there, where it creates what rule 9 asks for.
+/// Whether exactly the names that die after an instruction are removed there. Rule 9 has to be kept first (`created`): `removals`
+/// counts as created what that rule asks for, and does not read the list.
 pub(crate) fn removes_dead(
     alloc: Global,
     code: &Code,

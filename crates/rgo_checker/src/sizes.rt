@@ -1,4 +1,4 @@
-//! How many lines code has, counted before it is checked.
+//! How many lines code has, counted before it is checked. Sums saturate: a count beyond a machine word is too large in any case.
 
 ghost use Rattle.std.specs.Prelude.{◌≡◌, ◌↔◌, ◌+◌, ◌-◌, ◌^◌, true, false, min, length};
 ghost use Rattle.rgo_code.specs.declared.rules.Line.TheVariants.{AfterLast};

@@ -89,6 +89,7 @@ pub(crate) fn is_chan(ty: &Type) -> bool
     matches!(first_layer(ty.layers.items()), Some(Layer::Chan))
 }
 
+/// Whether the outer layers are this one and then the inner ones.
 fn are_around(layer: Layer, outer: &[Layer], inner: &[Layer]) -> bool
     ensures { result ≡ tests.are_around layer outer.now inner.now }
 {

@@ -88,6 +88,7 @@ fn have_types(types: &[Type], variables: &[u32], wanted: &[Type]) -> bool
     true
 }
 
+/// The types of the parameters, which are the first variables. A function with fewer variables breaks the first rule instead.
 fn parameters(f: &TacFn) -> &[Type]
     ensures { result.now ≡ take f.now.params f.now.variables }
 {
@@ -143,6 +144,7 @@ fn call_fits(code: &Tac, f: &TacFn, to: Option<u32>, n: u32, from: &[u32]) -> bo
     arguments_fit(code, f, n, from) && target_fits(code, f, n, to)
 }
 
+/// Whether a variable may be printed: integers and truth values have a text, and nothing else has.
 fn is_printed(types: &[Type], v: u32) -> bool
     ensures { result ≡ tests.is_printable_type (slice_get types.now v) }
 {

@@ -1,4 +1,5 @@
-//! The walk over all lines for the rules after the first.
+//! The walk over all lines for the rules after the first. No such rule is about structs or package variables, so the walk begins
+//! at the first function.
 
 ghost use Rattle.std.specs.Prelude.{◌≡◌, ◌∷◌, [], ℕ, Some, slice_get, IfOk, OnOk, MatchOption};
 ghost use Rattle.rgo_code.specs.declared.rules.Line.TheVariants as line;
@@ -99,6 +100,7 @@ fn walk_body(
     Ok(())
 }
 
+/// Only the first rule is about the line `end`, but the scan has to count it.
 fn walk_end(code: &Code, scan: &mut Scan)
     ensures { (n : ℕ) → Walks code.now 2 15 (line.End n ∷ []) scan.old scan.new }
 {
@@ -117,6 +119,7 @@ fn walk_function(
 {
     walk_head(code, f, scan);
     walk_slots(code, f, scan);
+    // Once for the function: rules 8 to 10 and 13 ask for it, most of them at each instruction.
     let live = live_names(alloc, f)?;
     walk_entry(alloc, code, f, &live, scan)?;
     walk_body(alloc, code, f, &live, scan)?;

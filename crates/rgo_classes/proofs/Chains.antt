@@ -1,4 +1,4 @@
--- Chains of joins: being the same is the least equivalence that contains the joins.
+-- Chains of joins: being the same is the least equivalence that contains the joins, by induction on the number of links.
 use Rattle.std.proofs.Common.{◌≡◌, inl, inr, ⊎_elim, ℕ, zero, suc, refl, sym, ap, ◌∙◌, subst}
 use Rattle.rgo_classes.specs.Same.{Chain, AreSame, IsLeastEquivalence}
 

@@ -1,4 +1,5 @@
--- Labels under joins that are made one after another.
+-- Labels under joins that are made one after another: the labels of some joins and then of more are those of all. So each function may
+-- state its own joins only.
 use Rattle.std.proofs.Common.{◌≡◌, ◌⊎◌, inl, inr, ⊎_elim, ◌↔◌, ℕ, List, refl, sym, ap, ◌∙◌, arith}
 use Rattle.rgo_tac.specs.declared.regions.Member.{Member}
 use Rattle.rgo_classes.specs.Labels.{Also, AreLabels, IsIn, JoinsAlso, NoJoins, Pair, label_of, member_index}

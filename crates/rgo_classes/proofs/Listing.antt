@@ -1,4 +1,5 @@
--- One variable more is listed with its class, as a call is gone through.
+-- One variable more is listed with its class, as a call is gone through. It is joined with one holder only; the others of its class are
+-- joined with that one already.
 use Rattle.std.proofs.Common.{◌≡◌, ◌≢◌, ◌⊎◌, inl, inr, ⊎_elim, ℕ, List, [], ◌∷◌, ◌++◌, false, Some, None, nat_eq, refl, sym, ap, ◌∙◌, subst}
 use Rattle.std.specs.List.{Contains}
 use Rattle.std.specs.HashMap.{HashMap, get}
@@ -205,7 +206,7 @@ module _ (f : TacFn) (held : List Listed) (c : Class) (v : ℕ) where
 pub name_some : (k : ℕ) → class.Name k ≢ class.NoClass
 name_some k e = cc
 
--- a name that is found is no other
+-- a name that is found is not another one
 pub name_found : {S : Type 0} (holders : HashMap ℕ ℕ S) (n k v : ℕ) → get nat_eq holders n ≡ Some v
     → class.Name n ≡ class.Name k → get nat_eq holders k ≢ None
 name_found holders n k v found e none = none-some v (sym none ∙ ap (get nat_eq holders) (same_name k n e) ∙ found)

@@ -1,4 +1,4 @@
--- What instructions that are no calls join.
+-- What instructions other than calls join.
 use Rattle.std.proofs.Common.{◌≡◌, ◌↔◌, List, Bool, true, false, ◌&&◌, Option, Some, None, refl, sym, ap, ◌∙◌, if◌then◌else◌}
 use Rattle.std.proofs.lemmas.Bool.{and_from, and_parts}
 use Rattle.std.proofs.lemmas.Option.{none-some, same_Some, some_pair_parts}
@@ -58,7 +58,7 @@ IsNoCall (Call to n from) = ⊥
 IsNoCall (Go n from) = ⊥
 IsNoCall op = Unit {0}
 
--- what is no call joins what it joins by itself
+-- an instruction other than a call joins what it joins by itself
 pub no_call_joins : (summaries : List Summary) (f : TacFn) (op : Op) → IsNoCall op → (a b : Member)
     → OwnJoins f op a b ↔ JoinsOf summaries f op a b
 no_call_joins summaries f (Do to action from) plain a b = own_is f (Do to action from) a b

@@ -1,4 +1,4 @@
--- What is listed at the end of a call is what stands for the classes of the callee's summary.
+-- What is listed at the end of a call is what corresponds to the classes of the callee's summary.
 use Rattle.std.proofs.Common.{◌≡◌, inl, inr, ⊎_elim, ◌↔◌, ℕ, List, [], ◌∷◌, ◌++◌, Option, Some, None, length, slice_get, nat_eq, refl, sym, ap, ◌∙◌, subst}
 use Rattle.std.specs.List.{Contains}
 use Rattle.std.specs.HashMap.{HashMap, IsEmpty}

@@ -11,16 +11,17 @@ use Rattle.rgo_classes.specs.declared.classes.Summary.{Summary}
 use Rattle.rgo_classes.specs.Joins.{IsPointerLike, Joins}
 use Rattle.rgo_classes.specs.Same.{AreSame}
 
+-- a chain of joins of f leads from one member to the other; a member that is not pointer-like is linked to itself only
 abbrev pub InOneClass : List Summary → TacFn → Member → Member → Type 0
 InOneClass summaries f = AreSame (Joins summaries f)
 
--- a class is named only after those of all smaller numbers
+-- A class is named only after those of all smaller numbers: so the classes alone decide on the names.
 abbrev pub AreNumbered : List Class → Type 0
 AreNumbered classes =
     (i k j : ℕ) → slice_get classes i ≡ Some (class.Name k) → j < k
     → (h : ℕ) × (h < i) × (slice_get classes h ≡ Some (class.Name j))
 
--- These are the classes of those members, in order, where two members are in one class if this is said of them.
+-- `classes` are those of `members`, in order, where `Same` says which members are in one class.
 pub record AreNamed (Same : Member → Member → Type 0) (f : TacFn) (members : List Member) (classes : List Class)
     : Type 0 where
   pub len : length classes ≡ length members
@@ -35,10 +36,11 @@ pub record AreNamed (Same : Member → Member → Type 0) (f : TacFn) (members :
       → IsPointerLike f m → IsPointerLike f n → (slice_get classes i ≡ slice_get classes j) ↔ Same m n
   pub numbered : AreNumbered classes
 
--- as classes of the function: where a chain of joins leads from one to the other
+-- the same, where two members of f are in one class if a chain of its joins leads from one to the other
 abbrev pub Describes : List Summary → TacFn → List Member → List Class → Type 0
 Describes summaries f = AreNamed (InOneClass summaries f) f
 
+-- the variables of numbers below n, in order, followed by the members `after`
 abbrev pub variables_before : ℕ → List Member → List Member
 variables_before zero after = after
 variables_before (suc n) after = variables_before n (Variable n ∷ after)
@@ -51,6 +53,8 @@ all_members f = variables_before (length f.variables) (Result ∷ [])
 abbrev pub outer_members : TacFn → List Member
 outer_members f = variables_before f.params (Result ∷ [])
 
+-- The classes of all variables of f and of its result are these. Two have one class exactly if joins link them, and the names are
+-- numbered in order, so `classes` is the only value with this property.
 abbrev pub AreClasses : List Summary → TacFn → Classes → Type 0
 AreClasses summaries f classes =
     Describes summaries f (all_members f) (classes.variables ++ classes.result ∷ [])

@@ -13,7 +13,7 @@ use Rattle.rgo_classes.specs.Labels.{JoinsAlso}
 abbrev pub Among : TacFn → (Member → Member → Type 0) → Member → Member → Type 0
 Among f Joins a b = Joins a b × IsPointerLike f a × IsPointerLike f b
 
--- of variables that are listed with their classes, and of the package variables: what is of a class
+-- the members of a class: those variables that are listed with it, and the package variables if it is Global
 abbrev pub IsOfClass : List (Class × ℕ) → Class → Member → Type 0
 IsOfClass held c (Variable v) = Contains held (c, v)
 IsOfClass held c Result = ⊥

@@ -11,7 +11,7 @@ member_index Global = 0
 member_index Result = 1
 member_index (Variable v) = v + 2
 
--- a label for each member of the function, and perhaps more
+-- a label for each member of the function, and perhaps more: in `rgo_summaries` the nodes of calls follow
 abbrev pub AreFor : TacFn → List ℕ → Type 0
 AreFor f labels = length f.variables + 2 ≤ length labels
 

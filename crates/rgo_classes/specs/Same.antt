@@ -2,10 +2,12 @@
 use Rattle.std.specs.Prelude.{◌≡◌, ◌⊎◌, ℕ, zero, suc}
 
 module _ {A : Type 0} (Joins : A → A → Type 0) where
+  -- a chain of this number of joins leads from a to b
   abbrev pub Chain : (links : ℕ) → A → A → Type 0
   Chain zero a b = a ≡ b
   Chain (suc n) a b = (c : A) × (Joins a c ⊎ Joins c a) × Chain n c b
 
+  -- a and b are linked by a chain of any length, which may be 0: each is the same as itself
   abbrev pub AreSame : A → A → Type 0
   AreSame a b = (links : ℕ) × Chain links a b
 

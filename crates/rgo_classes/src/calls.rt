@@ -13,7 +13,7 @@ use rgo_tac::{Class, Member, TacFn, is_pointer_like};
 use std::alloc::{AllocError, Global};
 use std::collections::HashMap;
 
-/// Joins a variable of a named class with the first one of that class.
+/// Joins a variable of a named class with the first one of that class: one join for each variable joins all of them.
 fn hold_name(
     alloc: Global,
     function: &TacFn,

@@ -30,8 +30,8 @@ fn join_own(
     }
 }
 
-/// Joins what a call of the function of this number joins: nothing if there is no function of this number, as every function
-/// has a summary.
+/// Joins what a call of the function of this number joins. Every function has a summary, so without one the function does not
+/// exist, and nothing is joined.
 fn join_called(
     alloc: Global,
     function: &TacFn,

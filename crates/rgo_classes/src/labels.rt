@@ -1,4 +1,5 @@
-//! Labels, one for each class: of two classes that are joined, the smaller is relabelled.
+//! Labels, one for each class: of two classes that are joined, the smaller is relabelled. Row l of `members` always has exactly the
+//! members with label l, so that a class is relabelled without a search for its members.
 
 ghost use Rattle.std.specs.Prelude.{◌≡◌, ◌≢◌, ◌<◌, ◌+◌, ℕ, length, vec_len, slice_index, Contains, [], ◌∷◌, IfOk, OnOk};
 ghost use Rattle.rgo_classes.specs.Labels as spec;
@@ -107,6 +108,7 @@ pub fn merge(
     ensures merged { OnOk result (MovesTo labels.old labels.new from to) }
     ensures rows { AreRows labels.new (member_rows rows.new) }
 {
+    // A copy, since two rows of one slice cannot be borrowed at once.
     let moved = Vec::from_slice(alloc, &rows[from])?;
     rows[to].extend_from_slice(&moved)?;
     rows[from].clear();

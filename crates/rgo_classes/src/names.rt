@@ -1,4 +1,4 @@
-//! Names of classes, in the order of their first members.
+//! Names of classes, in the order of their first members: so they do not depend on which label survived each join.
 
 ghost use Rattle.std.specs.Prelude.{◌≡◌, ◌⊎◌, ◌<◌, ◌≤◌, ◌+◌, ◌^◌, ◌++◌, ◌∷◌, [], ℕ, List, length, vec_len, set, replicate, IfOk, OnOk};
 ghost use Rattle.rgo_tac.specs.declared.regions.Class.{Class as AnyClass};
@@ -36,7 +36,7 @@ fn class_of(given: &mut [Class], next: &mut u32, label: usize) -> Class
     }
 }
 
-/// The class of a member.
+/// The class of a member. Only pointers, slices and channels have one: no other value leads into a region.
 fn name_member(
     function: &TacFn,
     labels: &Labels,

@@ -16,6 +16,8 @@ use Rattle.rgo_code.specs.Lines.{line_number}
 
 -- ---- what a rule says of each kind of line
 
+-- The rule is kept at instruction i of f. Rules 1 and 2 are about the erased code. Rules 3 and 8 require nothing of instructions: they
+-- are about variables, results and the entry.
 abbrev pub KeptByInstr : Code → Rule → CodeFn → ℕ → CodeInstr → Type 0
 KeptByInstr code rule.Exists f i instr = InstrExists (erased code) (erased_fn f) i (erased_op instr.op)
 KeptByInstr code rule.Types f i instr = IsWellTypedOp (erased code) (erased_fn f) (erased_op instr.op)
@@ -32,38 +34,45 @@ KeptByInstr code rule.Endings f i instr = ReturnsHoldNothing f i instr instr.op
 KeptByInstr code rule.Classes f i instr = ⊤
 KeptByInstr code rule.Entry f i instr = ⊤
 
+-- the rule is kept at the line `entry` of f: rule 8, and of rules 12 and 13 what they say of the removals at entry
 abbrev pub KeptByEntry : Rule → CodeFn → Type 0
 KeptByEntry rule.Entry f = EntryIsKnown f
 KeptByEntry rule.Lending f = EntryLendsResult f
 KeptByEntry rule.Removals f = EntryRemovesDead f
-KeptByEntry rule f = ⊤
+KeptByEntry other f = ⊤
 
+-- the rule is kept at the line `func` of function n, which has its name, the number of its parameters, and the type and the class of
+-- its result
 abbrev pub KeptByHead : Code → Rule → ℕ → CodeFn → Type 0
 KeptByHead code rule.Exists n f = HeadExists (erased code) n (erased_fn f)
 KeptByHead code rule.Classes n f = ResultFits f.result
-KeptByHead code rule n f = ⊤
+KeptByHead code other n f = ⊤
 
+-- the rule is kept at the line of a variable of a function
 abbrev pub KeptBySlot : Code → Rule → Slot → Type 0
 KeptBySlot code rule.Exists s = TypeExists (erased code) s.ty
 KeptBySlot code rule.Classes s = SlotClassFitsType s
-KeptBySlot code rule s = ⊤
+KeptBySlot code other s = ⊤
 
+-- the rule is kept at the line of the struct of number n; only rule 1 is about structs
 abbrev pub KeptByStruct : Code → Rule → ℕ → Struct → Type 0
 KeptByStruct code rule.Exists n s = StructExists (erased code) n s
-KeptByStruct code rule n s = ⊤
+KeptByStruct code other n s = ⊤
 
+-- the rule is kept at the line of the package variable of number n, which has no class: only rule 1 is about it
 abbrev pub KeptByVariable : Code → Rule → ℕ → Variable → Type 0
 KeptByVariable code rule.Exists n v = VariableExists (erased code) n v
-KeptByVariable code rule n v = ⊤
+KeptByVariable code other n v = ⊤
 
 -- a function has an instruction
 abbrev pub KeptByEnd : Rule → CodeFn → Type 0
 KeptByEnd rule.Exists f = f.body ≢ []
-KeptByEnd rule f = ⊤
+KeptByEnd other f = ⊤
 
+-- the rule is kept after the last line, where a missing `main` is reported
 abbrev pub KeptAfterLast : Code → Rule → Type 0
 KeptAfterLast code rule.Exists = HasMain (erased code)
-KeptAfterLast code rule = ⊤
+KeptAfterLast code other = ⊤
 
 -- ---- the rules at lines
 
@@ -82,6 +91,7 @@ KeptAt code rule (line.Instr n i) =
 KeptAt code rule (line.End n) = (f : CodeFn) → slice_get code.functions n ≡ Some f → KeptByEnd rule f
 KeptAt code rule line.AfterLast = KeptAfterLast code rule
 
+-- the rule is kept at every line
 abbrev pub KeepsRule : Code → Rule → Type 0
 KeepsRule code rule = (line : Line) → KeptAt code rule line
 
@@ -106,7 +116,8 @@ rule_number rule.Lending = 12
 rule_number rule.Removals = 13
 rule_number rule.Endings = 14
 
--- the least rule that is broken anywhere, and the number of the first line that breaks it
+-- The least rule that is broken anywhere, and the number of the first line that breaks it. The rule comes first, since later rules
+-- mean little for code that breaks an earlier one.
 pub record IsFirstBroken (code : Code) (broken : Rule) (number : ℕ) : Type 0 where
   pub at : Line
   pub numbered : line_number code at ≡ number

@@ -11,17 +11,20 @@ use Rattle.rgo_code.specs.Code.{Slot, CodeOp, CodeFn, Code, Do, Call, Go, Return
 use Rattle.rgo_code.specs.Erasure.{erased_op, erased_fn}
 use Rattle.rgo_code.specs.Names.{class_of, result_class, member_class, region_parameters, Holds, IsParameterName}
 
--- ---- rule 3: a variable or result has a class exactly where its type is pointer-like
+-- ---- rule 3: a variable or result has a class exactly where its type is pointer-like, since no other value leads into a region
 
+-- a variable has a class if its type is a pointer, a slice or a channel, and none otherwise
 abbrev pub SlotClassFitsType : Slot → Type 0
 SlotClassFitsType s = (s.class ≢ NoClass) ↔ (is_pointer_like s.ty ≡ true)
 
+-- the same of the result of a function, if it has one
 abbrev pub ResultFits : Option Slot → Type 0
 ResultFits None = ⊤
 ResultFits (Some s) = SlotClassFitsType s
 
 -- ---- rules 4, 5 and 11: the two that an instruction joins have one class
 
+-- whether the action reads or writes a package variable: rule 5 is about these actions, rule 4 about all others
 abbrev pub is_of_package : Action → Bool
 is_of_package (action.Get n) = true
 is_of_package (action.Set n) = true
@@ -45,10 +48,12 @@ is_of_package action.Recv = false
 is_of_package action.Send = false
 is_of_package action.Close = false
 
+-- the two members of the pair have one class in f; where no pair is joined, nothing is required
 abbrev pub Agree : CodeFn → Option (Member × Member) → Type 0
 Agree f None = ⊤
 Agree f (Some pair) = member_class f pair.0 ≡ member_class f pair.1
 
+-- the two members that the operation joins in f have one class
 abbrev pub OpAgrees : CodeFn → CodeOp → Type 0
 OpAgrees f op = Agree f (joins (erased_fn f) (erased_op op))
 
@@ -84,13 +89,16 @@ ReturnsAgree f (Branch test target removes other otherwise) = ⊤
 
 -- ---- rules 6 and 7: what is passed
 
--- the class of an argument is what is passed for the class of its parameter
+-- The class of an argument is what is passed for the class of its parameter. A parameter without a class asks for nothing: rules 2
+-- and 3 leave its argument none either.
 abbrev pub IsPassedFor : (parameters passes : List Class) → (parameter argument : Class) → Type 0
 IsPassedFor parameters passes NoClass argument = ⊤
 IsPassedFor parameters passes Global argument = argument ≡ Global
 IsPassedFor parameters passes (Name k) argument =
     (p : ℕ) → slice_get parameters p ≡ Some (Name k) → slice_get passes p ≡ Some argument
 
+-- The classes that f passes to the callee are one for each region parameter. The class of each argument, and that of the target if
+-- there is one, is what is passed for the class of its parameter or of the result.
 pub record PassesClasses (f callee : CodeFn) (to : Option ℕ) (from : List ℕ) (passes : List Class) : Type 0 where
   pub len : length passes ≡ length (region_parameters callee)
   pub arguments : (i v : ℕ) → i < callee.params → slice_get from i ≡ Some v
@@ -98,6 +106,7 @@ pub record PassesClasses (f callee : CodeFn) (to : Option ℕ) (from : List ℕ)
   pub result : (d : ℕ) → to ≡ Some d → IsPassedFor (region_parameters callee) passes (result_class callee)
       (class_of f d)
 
+-- f passes to the callee by `PassesClasses`; where the callee does not exist, rule 1 is broken, and nothing is required here
 abbrev pub CallPasses : CodeFn → Option CodeFn → (to : Option ℕ) → (from : List ℕ) → (passes : List Class) → Type 0
 CallPasses f None to from passes = ⊤
 CallPasses f (Some callee) to from passes = PassesClasses f callee to from passes
@@ -107,6 +116,7 @@ abbrev pub StartPasses : CodeFn → Option CodeFn → (from : List ℕ) → (pas
 StartPasses f None from passes = ⊤
 StartPasses f (Some callee) from passes = (callee.result ≡ None) × PassesClasses f callee None from passes
 
+-- rule 6, which only a call can break
 abbrev pub CallsPass : Code → CodeFn → CodeOp → Type 0
 CallsPass code f (Call to n from passes protects removes) = CallPasses f (slice_get code.functions n) to from passes
 CallsPass code f (Do to action from removes) = ⊤
@@ -116,6 +126,7 @@ CallsPass code f (Jump target removes) = ⊤
 CallsPass code f (Branch test target removes other otherwise) = ⊤
 CallsPass code f (Return value) = ⊤
 
+-- rule 7, which only a `go` can break
 abbrev pub StartsPass : Code → CodeFn → CodeOp → Type 0
 StartsPass code f (Go n from passes removes) = StartPasses f (slice_get code.functions n) from passes
 StartsPass code f (Do to action from removes) = ⊤
@@ -127,5 +138,7 @@ StartsPass code f (Return value) = ⊤
 
 -- ---- rule 8: each name that the first instruction holds is that of a parameter
 
+-- The own names that are live at instruction 0 are those of parameters. Any other would be used without a region: no caller passes one
+-- for it, and by rule 9 no instruction creates one while the name is held.
 abbrev pub EntryIsKnown : CodeFn → Type 0
 EntryIsKnown f = (k : ℕ) → Holds f k 0 → IsParameterName f k

@@ -12,9 +12,11 @@ use Rattle.rgo_tac.specs.Flow.{reads, writes}
 
 -- ---- declarations
 
+-- the types of the parameters, which are the first variables, and of the result
 abbrev pub tac_signature : TacFn → Signature
 tac_signature f = record { params = take f.params f.variables; result_type = f.result_type }
 
+-- what the code declares, in the form that the rules of typed trees take, so that these rules serve here too
 abbrev pub declared_in_code : Tac → Declared
 declared_in_code code = record {
   structs = map (λ s. s.fields) code.structs;
@@ -45,6 +47,8 @@ pub record HasMain (code : Tac) : Type 0 where
 abbrev pub UsesVariable : Op → ℕ → Type 0
 UsesVariable op v = Contains (reads op) v ⊎ (writes op ≡ Some v)
 
+-- The struct or package variable that the action names by its number is declared. The field of a load or a store is checked by
+-- `FieldExists`, since it depends on the type of the operand.
 abbrev pub ActionExists : Tac → Action → Type 0
 ActionExists code (action.New n) = n < length code.structs
 ActionExists code (action.Get n) = n < length code.variables
@@ -68,13 +72,14 @@ ActionExists code action.Recv = ⊤
 ActionExists code action.Send = ⊤
 ActionExists code action.Close = ⊤
 
--- if the variable is a pointer to a declared struct, that has a field k
+-- if the variable is a pointer to a declared struct, that has a field k; any other variable is refused by rule 2
 abbrev pub OperandHasField : Tac → TacFn → (k : ℕ) → List ℕ → Type 0
 OperandHasField code f k [] = ⊤
 OperandHasField code f k (a ∷ others) =
     (n : ℕ) (s : Struct) → slice_get f.variables a ≡ Some (pointer_to n) → slice_get code.structs n ≡ Some s
     → k < length s.fields
 
+-- the struct to which the first operand of a load or a store points has the field; other actions name no field
 abbrev pub FieldExists : Tac → TacFn → Action → List ℕ → Type 0
 FieldExists code f (action.Load k) from = OperandHasField code f k from
 FieldExists code f (action.Store k) from = OperandHasField code f k from
@@ -111,6 +116,8 @@ pub record StartExists (code : Tac) (n : ℕ) (from : List ℕ) : Type 0 where
   pub declared : slice_get code.functions n ≡ Some callee
   pub arguments : length from ≡ callee.params
 
+-- All that the operation names but its variables exists: structs, package variables and fields of actions, functions with that number
+-- of arguments, targets of jumps and branches in the body of f. Its variables are checked by `InstrExists`.
 abbrev pub OpExists : Tac → TacFn → Op → Type 0
 OpExists code f (Do to action from) = ActionExists code action × FieldExists code f action from
 OpExists code f (Call to n from) = CallExists code to n from
@@ -130,6 +137,8 @@ leaves (Call to n from) = false
 leaves (Go n from) = false
 leaves (Print pieces from) = false
 
+-- Rule 1 at instruction i of f: the variables and all else that its operation names exist, and if it is the last, it
+-- does not lead to the number after it, which no instruction has.
 pub record InstrExists (code : Tac) (f : TacFn) (i : ℕ) (op : Op) : Type 0 where
   pub variables : (v : ℕ) → UsesVariable op v → v < length f.variables
   pub exists : OpExists code f op
@@ -137,10 +146,12 @@ pub record InstrExists (code : Tac) (f : TacFn) (i : ℕ) (op : Op) : Type 0 whe
 
 -- ---- declarations exist
 
+-- rule 1 at the struct of number n: no earlier struct has its name, and the types of its fields exist
 pub record StructExists (code : Tac) (n : ℕ) (s : Struct) : Type 0 where
   pub is_new : IsNew (map (λ s. s.name) code.structs) n
   pub fields : (k : ℕ) (ty : «Type») → slice_get s.fields k ≡ Some ty → TypeExists code ty
 
+-- rule 1 at the package variable of number n: no earlier one has its name, and its type exists
 pub record VariableExists (code : Tac) (n : ℕ) (v : Variable) : Type 0 where
   pub is_new : IsNew (map (λ v. v.name) code.variables) n
   pub ty : TypeExists code v.ty

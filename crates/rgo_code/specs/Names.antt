@@ -12,21 +12,26 @@ use Rattle.rgo_code.specs.Exists.{UsesVariable}
 
 -- ---- classes
 
+-- the class of a slot, and no class where there is no slot
 abbrev pub slot_class : Option Slot → Class
 slot_class None = NoClass
 slot_class (Some s) = s.class
 
+-- the class of variable v of f; `NoClass` for a number that no variable has
 abbrev pub class_of : CodeFn → ℕ → Class
 class_of f v = slot_class (slice_get f.variables v)
 
+-- the class of the result; `NoClass` for a function without a result
 abbrev pub result_class : CodeFn → Class
 result_class f = slot_class f.result
 
+-- the class of what an instruction may join; the package variables together have the class Global in each function
 abbrev pub member_class : CodeFn → Member → Class
 member_class f (member.Variable v) = class_of f v
 member_class f member.Result = result_class f
 member_class f member.Global = Global
 
+-- whether the class is the name k; Global and `NoClass` are not names
 abbrev pub is_class_named : ℕ → Class → Bool
 is_class_named k (Name j) = nat_eq k j
 is_class_named k NoClass = false
@@ -34,13 +39,14 @@ is_class_named k Global = false
 
 -- ---- region parameters
 
--- the names among classes, each once, at its first place
+-- the names among classes, each once, at its first place: so a caller and a callee agree on the order of regions without declaring it
 abbrev pub distinct_names : (seen classes : List Class) → List Class
 distinct_names seen [] = []
 distinct_names seen (Name k ∷ classes) =
     if list_any (is_class_named k) seen then distinct_names seen classes else Name k ∷ distinct_names (Name k ∷ seen) classes
 distinct_names seen (c ∷ classes) = distinct_names seen classes
 
+-- the classes of the first n slots in order, repeated ones and `NoClass` included; the first variables of a function are its parameters
 abbrev pub parameter_classes : ℕ → List Slot → List Class
 parameter_classes zero slots = []
 parameter_classes (suc n) [] = []
@@ -78,10 +84,12 @@ pub record UsesRegionName (f : CodeFn) (op : CodeOp) (k : ℕ) : Type 0 where
 
 -- ---- calls
 
+-- the class of the callee's result, in the callee's names; `NoClass` if the code has no such function
 abbrev pub callee_result : Option CodeFn → Class
 callee_result None = NoClass
 callee_result (Some g) = result_class g
 
+-- the region parameters of the callee, in its names; none if the code has no such function
 abbrev pub callee_regions : Option CodeFn → List Class
 callee_regions None = []
 callee_regions (Some g) = region_parameters g
@@ -92,7 +100,8 @@ pub record IsPassedForResult (callee : Option CodeFn) (passes : List Class) (k :
   pub parameter : slice_get (callee_regions callee) at ≡ Some (callee_result callee)
   pub passed : slice_get passes at ≡ Some (Name k)
 
--- a call leaves it to the callee to remove k: it passes k, without protection, and not for the callee's result
+-- a call leaves it to the callee to remove k: it passes k, without protection, and not for the callee's result, which the callee may
+-- not remove
 abbrev pub LeavesToCallee : Code → CodeOp → ℕ → Type 0
 LeavesToCallee code (Call to n from passes protects removes) k =
     Contains passes (Name k) × (Contains protects k → ⊥) × (IsPassedForResult (slice_get code.functions n) passes k → ⊥)

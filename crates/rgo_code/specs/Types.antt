@@ -9,9 +9,11 @@ use Rattle.rgo_wellformed.specs.WellFormed.{IsPrinted}
 use Rattle.rgo_tac.specs.Code.{Op, TacFn, Tac, Do, Call, Go, Print, Jump, Branch, Return}
 use Rattle.rgo_code.specs.Exists.{tac_signature, declared_in_code}
 
+-- f has a variable v, and it has this type
 abbrev pub VariableHasType : TacFn → ℕ → «Type» → Type 0
 VariableHasType f v ty = slice_get f.variables v ≡ Some ty
 
+-- f has all these variables, and they have these types, one for one in order
 abbrev pub VariablesHaveTypes : TacFn → List ℕ → List «Type» → Type 0
 VariablesHaveTypes f vs tys = map (slice_get f.variables) vs ≡ map Some tys
 
@@ -21,10 +23,13 @@ abbrev pub ReturnsType : Tac → Action → (operands : List «Type») → (t : 
 ReturnsType code action.Copy operands t = operands ≡ t ∷ []
 ReturnsType code action operands t = Returns (declared_in_code code) action operands t
 
+-- With a target, the action on operands of these types returns a value of the target's type. Without one, it is an action without a
+-- value that takes operands of these types.
 abbrev pub DoFits : Tac → TacFn → (to : Option ℕ) → Action → (operands : List «Type») → Type 0
 DoFits code f None action operands = Takes (declared_in_code code) action operands
 DoFits code f (Some d) action operands = (t : «Type») × VariableHasType f d t × ReturnsType code action operands t
 
+-- the arguments have the types of the callee's parameters, one for one; that the callee exists is a matter of the first rule
 abbrev pub ArgumentsFit : TacFn → Option TacFn → List ℕ → Type 0
 ArgumentsFit f None from = ⊤
 ArgumentsFit f (Some callee) from = VariablesHaveTypes f from (tac_signature callee).params
@@ -34,6 +39,8 @@ abbrev pub TargetFits : TacFn → Option TacFn → Option ℕ → Type 0
 TargetFits f (Some callee) (Some d) = (t : «Type») → callee.result_type ≡ Some t → VariableHasType f d t
 TargetFits f callee to = ⊤
 
+-- rule 2 at an operation: operands and target of an action or a call, arguments of a `go`, printed variables, the bool that a branch
+-- tests, and a returned value exactly where f has a result, and of its type
 abbrev pub IsWellTypedOp : Tac → TacFn → Op → Type 0
 IsWellTypedOp code f (Do to action from) =
     (operands : List «Type») × VariablesHaveTypes f from operands × DoFits code f to action operands

@@ -21,7 +21,7 @@ no_regions = record { classes = []; result = class.NoClass; entry = []; notes = 
 abbrev pub slot : «Type» → Class → Slot
 slot ty class = record { ty = ty; class = class }
 
--- each variable with its class; those without one have none
+-- each variable with its class; those beyond the list have none, so that any two lists make code
 abbrev pub slots : List «Type» → List Class → List Slot
 slots [] classes = []
 slots (ty ∷ tys) classes = slot ty (get_or classes 0 class.NoClass) ∷ slots tys (drop 1 classes)

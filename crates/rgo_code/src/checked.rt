@@ -1,4 +1,4 @@
-//! Code that keeps all rules.
+//! Code that keeps all rules. A function that takes a `Checked` needs no premise on its code, and no second check.
 
 ghost use Rattle.std.specs.Prelude.{◌≡◌};
 ghost use Rattle.rgo_code.specs.Checked.{IsChecked};

@@ -1,5 +1,5 @@
-//! Code: three-address code, and beside it what each function says of regions. So the code without regions is at hand, for
-//! the analyses and for runs.
+//! Code: three-address code, and beside it what each function says of regions. The two are kept apart, so that the analyses take the
+//! code without regions as it is.
 
 ghost use Rattle.std.specs.Prelude.{◌≡◌, length, slice_get};
 ghost use Rattle.rgo_code.specs.Erasure.{erased};
@@ -93,6 +93,7 @@ impl Code {
         match item_at(self.tac.functions(), n) {
             Some(tac) => match item_at(self.regions.items(), n) {
                 Some(regions) => Some(CodeFn::new(tac, regions)),
+                // Not by the invariant: each function has its regions.
                 None => None,
             },
             None => None,

@@ -47,7 +47,7 @@ fn class_at(classes: &[Class], n: usize) -> Class
     classes.get(n).copied().unwrap_or(Class::NoClass)
 }
 
-/// A note has every list. Of one that the instruction's kind does not have, nothing is seen, here and below.
+/// A note has every list, whatever its instruction. A list that the instruction's kind does not have is ignored, here and below.
 fn passes_by<'a>(kind: Kind, note: &'a Note) -> &'a [Class]
     ensures { (op : Op) → kind_of op ≡ kind → result.now ≡ passes_of (code_op op note.now) }
 {

@@ -3,14 +3,14 @@
 use rgo_tac::Class;
 use rgo_typed::Row;
 
-/// What is said of regions at an instruction. Names are in ascending order.
+/// What is said of regions at an instruction. Names are in ascending order: so two notes are equal exactly if they mean the same.
 #[derive(Drop)]
 pub struct Note {
     /// The names that are created before the instruction.
     pub creates: Row<u32>,
     /// For a call or the start of a goroutine: what is passed for each region parameter of the callee.
     pub passes: Row<Class>,
-    /// For a call: the names that are kept until it has returned.
+    /// For a call: the names that are kept until it has returned, whatever the callee removes.
     pub protects: Row<u32>,
     /// The names that are removed after the instruction; after a branch, if the variable is true.
     pub removes: Row<u32>,

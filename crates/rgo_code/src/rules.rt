@@ -3,7 +3,8 @@
 ghost use Rattle.std.specs.Prelude.{◌≡◌};
 ghost use Rattle.rgo_code.specs.Checked.{rule_number};
 
-/// A rule, in the order of the rules' numbers.
+/// A rule, in the order of the rules' numbers. The order matters: the least broken rule is reported, and a rule may rely on those
+/// before it.
 #[derive(Clone, Copy, Debug, PartialEq, Eq)]
 pub enum Rule {
     /// Numbers, names and targets exist, names differ, and there is a `main`.
@@ -24,15 +25,15 @@ pub enum Rule {
     Entry,
     /// An instruction creates the own names that it uses and that were not held.
     Creations,
-    /// A call protects the names that it passes and that are needed after it.
+    /// A call protects the names that it passes and that are needed after it, so that the callee's removals do not end them.
     Protections,
     /// A returned variable has the class of the result.
     Returns,
-    /// The region of the result is neither created nor removed.
+    /// The region of the result is neither created nor removed, since it is the caller's.
     Lending,
     /// Names are removed exactly where they die.
     Removals,
-    /// A return creates and holds nothing.
+    /// Before a return no name is held, and a return creates none.
     Endings,
 }
 
@@ -61,7 +62,7 @@ impl Rule {
 }
 
 /// A line of a code text after its first: of a struct, of a package variable, and of a function its head, a variable,
-/// the line `entry`, an instruction and the line `end`; then the place after the last line.
+/// the line `entry`, an instruction and the line `end`; then the place after the last line, where a missing `main` is reported.
 #[derive(Clone, Copy, Debug, PartialEq, Eq)]
 pub enum Line {
     Struct(usize),

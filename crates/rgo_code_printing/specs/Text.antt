@@ -18,7 +18,7 @@ pub record Names : Type 0 where
   pub variables : List (List ℕ)
   pub functions : List (List ℕ)
 
--- those of what is declared, and then of what is not
+-- those of what is declared, and then of what is used but not declared: code that breaks the first rule has a text, too
 abbrev pub names_of : Code → Names
 names_of code = record {
   structs = map (λ s. s.name) code.structs ++ code.undeclared.structs;
@@ -28,7 +28,7 @@ names_of code = record {
 
 -- ---- instructions
 
--- actions that take other operands have no words
+-- Actions with other operands have no words: they are not instructions, and whether there are words is how readers ask for that.
 abbrev pub action_words : Names → Action → Option ℕ → List ℕ → List (List ℕ)
 action_words n (action.Int k) (Some d) [] = codes "int" ∷ variable_word d ∷ signed_decimal k ∷ []
 action_words n (action.Bool b) (Some d) [] = codes "bool" ∷ variable_word d ∷ bool_word b ∷ []
@@ -79,6 +79,8 @@ abbrev pub value_word : Option ℕ → List ℕ
 value_word (Some v) = variable_word v
 value_word None = codes "-"
 
+-- The words of an operation, the last part of its line. A struct, a package variable or a function is printed by its name in n, all
+-- else by its number.
 abbrev pub op_words : Names → CodeOp → List (List ℕ)
 op_words n (Do to action from removes) = action_words n action to from ++ removes_word removes ∷ []
 op_words n (Call to f from passes protects removes) =
@@ -100,22 +102,28 @@ instr_words n i instr = decimal i ∷ place_word instr.place ∷ creates_word in
 
 -- ---- lines
 
+-- the line of a struct: its name and the types of its fields
 abbrev pub struct_line_words : Names → Struct → List (List ℕ)
 struct_line_words n s = codes "struct" ∷ s.name ∷ map (type_word n.structs) s.fields
 
+-- the line of a package variable: its name and its type
 abbrev pub global_words : Names → Variable → List (List ℕ)
 global_words n v = codes "global" ∷ v.name ∷ type_word n.structs v.ty ∷ []
 
+-- the type and the class of a result, or `- -` for a function without one
 abbrev pub result_words : Names → Option Slot → List (List ℕ)
 result_words n None = codes "-" ∷ codes "-" ∷ []
 result_words n (Some s) = type_word n.structs s.ty ∷ class_word s.class ∷ []
 
+-- the line `func`: the name, the number of parameters, and the result
 abbrev pub head_words : Names → CodeFn → List (List ℕ)
 head_words n f = codes "func" ∷ f.name ∷ decimal f.params ∷ result_words n f.result
 
+-- the line of a variable: its type and its class
 abbrev pub slot_words : Names → Slot → List (List ℕ)
 slot_words n s = codes "var" ∷ type_word n.structs s.ty ∷ class_word s.class ∷ []
 
+-- the line `entry`: the names that are removed before the first instruction
 abbrev pub entry_words : List ℕ → List (List ℕ)
 entry_words names = codes "entry" ∷ removes_word names ∷ []
 
@@ -124,11 +132,13 @@ abbrev pub body_lines : Names → (i : ℕ) → List CodeInstr → List (List (L
 body_lines n i [] = []
 body_lines n i (instr ∷ body) = instr_words n i instr ∷ body_lines n (i + 1) body
 
+-- the lines of a function, each a list of words: its head, its variables, the removals at entry, its instructions, and `end`
 abbrev pub fn_lines : Names → CodeFn → List (List (List ℕ))
 fn_lines n f =
     head_words n f ∷ (map (slot_words n) f.variables
     ++ (entry_words f.entry ∷ (body_lines n 0 f.body ++ (codes "end" ∷ []) ∷ [])))
 
+-- all lines of the code, in which n has the names of what it numbers; the first line is `rgo code 1`
 abbrev pub lines_with : Names → Code → List (List (List ℕ))
 lines_with n code =
     (codes "rgo" ∷ codes "code" ∷ codes "1" ∷ [])
@@ -141,5 +151,7 @@ lines_with n code =
 abbrev pub line : List (List ℕ) → List ℕ
 line words = join_with_byte 32 words ++ 10 ∷ []
 
+-- The text of code. Code whose parts have no proper words gets a text as well, from which it cannot be read back. Written.antt of
+-- rgo_code_text excludes such code.
 unfoldable pub text_of : Code → List ℕ
 text_of code = flat_map line (lines_with (names_of code) code)

@@ -27,7 +27,7 @@ fn print_hex(out: &mut Vec<u8>, byte: u8) -> Result<(), AllocError>
     print_byte(out, hex_digit(byte % 16))
 }
 
-/// A byte of a string.
+/// A byte of a string. A space is printed as it is, so a reader must not cut a print into words.
 fn print_string_byte(out: &mut Vec<u8>, byte: u8) -> Result<(), AllocError>
     ensures { OnOk result (out.new.items ≡ out.old.items ++ byte_word byte) }
 {

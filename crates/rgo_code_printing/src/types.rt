@@ -11,7 +11,8 @@ use rgo_code::Code;
 use rgo_typed::{Base, Layer, Type};
 use std::alloc::AllocError;
 
-/// The name of this number among those that are used and not declared; empty if there is none.
+/// The name of this number among those that are used and not declared, whose numbers follow those of the declared ones; empty if
+/// there is none.
 fn unknown_name(names: &[Name], n: usize) -> &[u8]
     ensures { result.now ≡ name_at names.now n }
 {

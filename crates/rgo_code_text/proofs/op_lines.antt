@@ -3,12 +3,12 @@ pub mod ActionOps
 pub mod ActionsBack
 pub mod ActionsIs
 pub mod CallNotes
+pub mod CopyInstrs
 pub mod EachPrint
 pub mod Instrs
 pub mod Notes
 pub mod OpTexts
 pub mod OpWords
 pub mod OpsBack
-pub mod PlainInstrs
 pub mod PrintWords
 pub mod TypeWords

@@ -49,7 +49,7 @@ with_three word a b c =
 abbrev pub two_words : List (List ℕ) → Option NamedAction
 two_words words = on_some (read_variable (nth_word words 1)) (λ a. with_one (nth_word words 0) a)
 
--- of three words the last two are not both variables
+-- `set` has a name where other actions of three words have a variable
 abbrev pub read_set : List (List ℕ) → Option NamedAction
 read_set words = on_some (read_variable (nth_word words 2)) (λ a. named_action (tac.Do None (action.Set 0) (a ∷ [])) (nth_word words 1))
 

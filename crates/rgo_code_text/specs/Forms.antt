@@ -26,7 +26,8 @@ pub record IsText (bytes : List ℕ) : Type 0 where
   pub written : HasCodeText code
   pub text : text_of code ≡ bytes
 
--- a line follows with which no text of code can continue
+-- A line follows with which no text of code can continue. This is defined by all code and not by a grammar: a reader of the definition
+-- need not know how lines are read.
 pub record HasNoForm (head tail : List ℕ) : Type 0 where
   pub bytes : List ℕ
   pub more : List ℕ

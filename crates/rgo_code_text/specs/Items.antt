@@ -18,7 +18,7 @@ pub record NamedSlot : Type 0 where
   pub ty : NamedType
   pub class : Class
 
--- what an instruction names has the number 0
+-- What an instruction names has the number 0: a line may name what a later line declares, so numbers come after all lines are read.
 pub data Item : Type 0 where
   Head : Item
   Struct : (name : List ℕ) (fields : List NamedType) → Item

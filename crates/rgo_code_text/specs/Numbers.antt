@@ -3,7 +3,7 @@ use Rattle.std.specs.Prelude.{ℕ, nat_lt, if◌then◌else◌, List, [], ◌∷
 use Rattle.rgo_code_text.specs.Written.{number_of_name}
 use Rattle.rgo_code_words.specs.Worded.{is_among}
 
--- the number of a name, if it is among the names
+-- the number of a name, if it is among the names; `number_of_name` has the length of the list for others
 abbrev pub number_if_known : List (List ℕ) → List ℕ → Option ℕ
 number_if_known names name = if nat_lt (number_of_name names name) (length names) then Some (number_of_name names name) else None
 

@@ -33,15 +33,51 @@ with_slot f slot = record f { variables = f.variables ++ slot ∷ [] }
 abbrev pub with_instr : CodeFn → CodeInstr → CodeFn
 with_instr f instr = record f { body = f.body ++ instr ∷ [] }
 
--- the lists of an instruction have numbers below n
+-- The lists of an instruction have numbers below n: then it means the same after more lists were added.
 abbrev pub ListsBelow : ℕ → Instr → Type 0
 ListsBelow n (code.Call d f k) = k < n
 ListsBelow n (code.Invoke f k) = k < n
 ListsBelow n (code.Go f k) = k < n
 ListsBelow n (code.Print p k) = (p < n) × (k < n)
-ListsBelow n instr = ⊤
+ListsBelow n (code.Int d k) = ⊤
+ListsBelow n (code.Bool d b) = ⊤
+ListsBelow n (code.Nil d) = ⊤
+ListsBelow n (code.Copy d a) = ⊤
+ListsBelow n (code.CopyInt d a) = ⊤
+ListsBelow n (code.CopyBool d a) = ⊤
+ListsBelow n (code.Add d a b) = ⊤
+ListsBelow n (code.Sub d a b) = ⊤
+ListsBelow n (code.Mul d a b) = ⊤
+ListsBelow n (code.Div d a b) = ⊤
+ListsBelow n (code.Rem d a b) = ⊤
+ListsBelow n (code.Eq d a b) = ⊤
+ListsBelow n (code.Ne d a b) = ⊤
+ListsBelow n (code.Lt d a b) = ⊤
+ListsBelow n (code.Le d a b) = ⊤
+ListsBelow n (code.Gt d a b) = ⊤
+ListsBelow n (code.Ge d a b) = ⊤
+ListsBelow n (code.Neg d a) = ⊤
+ListsBelow n (code.Not d a) = ⊤
+ListsBelow n (code.IsNil d a) = ⊤
+ListsBelow n (code.Len d a) = ⊤
+ListsBelow n (code.Load d a k) = ⊤
+ListsBelow n (code.Store a k b) = ⊤
+ListsBelow n (code.At d a i) = ⊤
+ListsBelow n (code.Put a i b) = ⊤
+ListsBelow n (code.New d s) = ⊤
+ListsBelow n (code.Slice d count) = ⊤
+ListsBelow n (code.Chan d count) = ⊤
+ListsBelow n (code.Recv d c) = ⊤
+ListsBelow n (code.Send c a) = ⊤
+ListsBelow n (code.Close c) = ⊤
+ListsBelow n (code.Get d g) = ⊤
+ListsBelow n (code.Set g a) = ⊤
+ListsBelow n (code.Jump t) = ⊤
+ListsBelow n (code.Branch a t e) = ⊤
+ListsBelow n (code.Return a) = ⊤
+ListsBelow n code.Leave = ⊤
 
--- a copy of variable a to d, of any kind
+-- a copy of variable a to d, of any kind: the kinds differ in speed only
 abbrev pub IsCopy : (d a : ℕ) → Instr → Type 0
 IsCopy d a (code.Copy e b) = (e ≡ d) × (b ≡ a)
 IsCopy d a (code.CopyInt e b) = (e ≡ d) × (b ≡ a)

@@ -22,7 +22,7 @@ pub record NamedOp : Type 0 where
 abbrev pub unnamed_op : CodeOp → Option NamedOp
 unnamed_op op = Some (record { op = op; name = [] })
 
--- nothing but these removals
+-- a note with these removals alone
 abbrev pub removing : List ℕ → Note
 removing names = record { creates = []; passes = []; protects = []; removes = names; otherwise = [] }
 

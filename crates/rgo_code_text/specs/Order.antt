@@ -35,7 +35,7 @@ abbrev pub after_kinds : List Kind → Place → Option Place
 after_kinds [] place = Some place
 after_kinds (kind ∷ kinds) place = on_some (after_kind place kind) (after_kinds kinds)
 
--- a text may end there
+-- A text may end there: not within a function, and not without its first line. A text without functions is code; rule 1 refuses it.
 abbrev pub IsLast : Place → Type 0
 IsLast Structs = ⊤
 IsLast Globals = ⊤

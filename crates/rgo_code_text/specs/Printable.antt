@@ -1,5 +1,5 @@
--- What the rules of code leave open of its parts, and a text needs: names are words, numbers have 32 bits, integers 64,
--- strings are bytes, and a print has a variable for each piece that prints one.
+-- What a text needs of the parts of code, and the rules do not say: names are words, numbers have 32 bits, integers 64, strings are bytes,
+-- and a print has a variable for each piece that prints one.
 use Rattle.std.specs.Prelude.{◌≡◌, ◌≤◌, ◌^◌, map, length, IfSome, All, ⊤}
 use Rattle.rgo_typed.specs.declared.actions.Action.{Action}
 use Rattle.rgo_typed.specs.declared.actions.Action.TheVariants as action

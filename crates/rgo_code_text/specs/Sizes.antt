@@ -1,4 +1,4 @@
--- Texts, and lines of texts, that are not too many for numbers of 32 bits.
+-- Which texts are too long, and what of the others has numbers of 32 bits.
 use Rattle.std.specs.Prelude.{ℕ, ◌+◌, ◌<◌, ◌≤◌, ◌^◌, List, length}
 use Rattle.rgo_code_printing.specs.Text.{Names}
 use Rattle.rgo_code_text.specs.Building.{names_in}
@@ -9,7 +9,7 @@ use Rattle.rgo_code_text.specs.Items.{Item}
 abbrev pub IsTooLongText : List ℕ → Type 0
 IsTooLongText text = 2 ^ 32 ≤ length text + 2
 
--- each name has a number, and so has what is not among the names
+-- each name has a number, and so has what is not among the names, whose number is how many there are
 pub record HaveNumbers (n : Names) : Type 0 where
   pub structs : length n.structs < 2 ^ 32
   pub variables : length n.variables < 2 ^ 32

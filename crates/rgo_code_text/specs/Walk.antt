@@ -48,7 +48,8 @@ pub record StopsAt (text : List ℕ) (n : ℕ) : Type 0 where
   pub number : length before + 1 ≡ n
   pub stops : Stops place tail ⊎ CodeTextEnds place tail
 
--- an error of a text that is not too large is the first line without form, unless memory ran out
+-- What an error says of a text that is not too large: `TooLarge` is not returned, and `Refused` has the first line without form.
+-- `NoMemory` may be returned at any allocation.
 abbrev pub StopsIn : List ℕ → ReadError → Type 0
 StopsIn text error.NoMemory = ⊤
 StopsIn text error.TooLarge = ⊥

@@ -1,4 +1,5 @@
-//! Actions in a code text, as they are read: each by its word and its operands.
+//! Actions in a code text, as they are read: each by its word and its operands. The words are strings, so the compiler does not
+//! report an action whose word is missing here; the proof that each action is read back does (`proofs/op_lines/ActionsBack.antt`).
 
 ghost use Rattle.std.specs.Prelude.{◌≡◌, [], Some};
 ghost use Rattle.std.specs.Option.{option_map};
@@ -115,6 +116,7 @@ fn three_words<'t>(words: &[&'t [u8]]) -> Option<Action<'t>>
     let word = word_at(words, 0);
     let second = word_at(words, 1);
     let third = word_at(words, 2);
+    // The only action with three words that has no variable in second place.
     if is(word, "set") {
         return named(Instr::Set(0, variable(third)?), second);
     }

@@ -1,4 +1,4 @@
-//! Code, made of the items of its text.
+//! Code, made of the items of its text. The items are in an order that `Place` admits, so each one is added to what is open.
 
 ghost use Rattle.std.specs.Prelude.{◌≡◌, ◌+◌, ◌<◌, ◌^◌, ◌++◌, ◌∷◌, [], length, map, drop, All, OnOk, IfOk};
 ghost use Rattle.std.specs.Option.{option_map};
@@ -27,7 +27,8 @@ use rgo_typed::{Piece, Row, Struct, Type, Variable};
 use std::alloc::{AllocError, Global};
 use std::mem;
 
-/// A function whose end is not read yet. Each instruction has a list of variables and one of pieces, which may be empty.
+/// A function whose end is not read yet. Each instruction has a list of variables and one of pieces, which may be empty: so the
+/// lists of an instruction have its own number, and no second counter is needed.
 #[derive(Drop)]
 struct Open {
     name: Name,
@@ -79,6 +80,8 @@ fn opened(alloc: Global, name: Name, params: usize, result_type: Option<Type>, c
     }
 }
 
+/// Holds the place before the first head and after each `end`. No line is ever added to it, since `Place` admits the lines of a
+/// function only after its head.
 fn none_open(alloc: Global) -> Open
     ensures function { open_of result ≡ no_function }
     ensures aligned { IsAligned result }

@@ -41,6 +41,7 @@ fn read_callee(alloc: Global, word: &[u8]) -> Result<Option<Callee<'_>>, AllocEr
     }
 }
 
+/// The function and the list have number 0 until all names of the text are known.
 fn call_instr(to: Option<u32>) -> Instr
     ensures { (from : List ℕ) (pieces : List Piece) → own_op from pieces result ≡ tac.Call to 0 from }
 {

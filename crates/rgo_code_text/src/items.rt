@@ -173,7 +173,7 @@ fn an_entry<'t>(alloc: Global, words: &[&'t [u8]]) -> Result<Option<Item<'t>>, A
     }
 }
 
-/// An instruction that creates these regions first.
+/// An instruction that creates these regions first. Their word precedes the operation, whose note has no creations yet.
 fn with_creates<'t>(index: u32, place: u32, creates: Row<u32>, op: NamedOp<'t>) -> NamedInstr<'t>
     ensures index { result.index ≡ index }
     ensures instr { code_instr_of result

@@ -83,7 +83,7 @@ fn return_instr(value: Option<u32>) -> Instr
     }
 }
 
-/// `return a` or `return -`.
+/// `return a` or `return -`. A return has no word for removals: only the region of the result may be live there, which the caller keeps.
 pub(crate) fn give_back<'t>(alloc: Global, words: &[&'t [u8]]) -> Option<NamedOp<'t>>
     ensures { option_map named_op_of result
         ≡ of_length 2 (nows words.now) (read_return (nows words.now)) }

@@ -44,7 +44,7 @@ pub(crate) fn numbered_types(
     Ok(types)
 }
 
-/// The number of a name, in 32 bits.
+/// The number of a name, in 32 bits: there are fewer names than bytes in the text.
 fn small_number(numbers: &Numbers<'_>, name: &[u8]) -> u32
     requires { length numbers.now < 2 ^ 32 }
     ensures { result ≡ number_of_name numbers.now name.now }
@@ -52,7 +52,8 @@ fn small_number(numbers: &Numbers<'_>, name: &[u8]) -> u32
     numbers.number(name) as u32
 }
 
-/// Whether a variable has this base and no layers.
+/// Whether a variable has this base and no layers. A number without a variable has not; its copy is then of the general kind, which
+/// means the same.
 fn is_plain(types: &[Type], v: u32, base: Base) -> bool {
     match types.get(v as usize) {
         Some(ty) => ty.layers.items().is_empty() && ty.base == base,
@@ -93,6 +94,38 @@ pub(crate) fn numbered_instr(
         Instr::Invoke(_, _) => Instr::Invoke(small_number(&tables.functions, name), list),
         Instr::Go(_, _) => Instr::Go(small_number(&tables.functions, name), list),
         Instr::Print(_, _) => Instr::Print(list, list),
-        other => other,
+        Instr::Int(..)
+        | Instr::Bool(..)
+        | Instr::Nil(..)
+        | Instr::CopyInt(..)
+        | Instr::CopyBool(..)
+        | Instr::Add(..)
+        | Instr::Sub(..)
+        | Instr::Mul(..)
+        | Instr::Div(..)
+        | Instr::Rem(..)
+        | Instr::Eq(..)
+        | Instr::Ne(..)
+        | Instr::Lt(..)
+        | Instr::Le(..)
+        | Instr::Gt(..)
+        | Instr::Ge(..)
+        | Instr::Neg(..)
+        | Instr::Not(..)
+        | Instr::IsNil(..)
+        | Instr::Len(..)
+        | Instr::Load(..)
+        | Instr::Store(..)
+        | Instr::At(..)
+        | Instr::Put(..)
+        | Instr::Slice(..)
+        | Instr::Chan(..)
+        | Instr::Recv(..)
+        | Instr::Send(..)
+        | Instr::Close(..)
+        | Instr::Jump(..)
+        | Instr::Branch(..)
+        | Instr::Return(..)
+        | Instr::Leave => op.instr,
     }
 }

@@ -133,10 +133,11 @@ fn declare<'t>(tables: &mut Tables<'t>, item: &Item<'t>) -> Result<(), AllocErro
         Item::Struct(name, _) => tables.structs.declare(*name),
         Item::Global(name, _) => tables.globals.declare(*name),
         Item::Function(name, _, _) => tables.functions.declare(*name),
-        _ => Ok(()),
+        Item::Head | Item::Slot(_) | Item::Entry(_) | Item::Instr(_) | Item::End => Ok(()),
     }
 }
 
+/// Adds the struct that a type names; only pointers name one.
 fn note_type<'t>(tables: &mut Tables<'t>, named: &NamedType<'t>) -> Result<(), AllocError>
     ensures { OnOk result (names_now tables.new
         ≡ with_struct_names (names_now tables.old) (type_names (named_type_of named.now))) }
@@ -167,6 +168,7 @@ fn note_result<'t>(tables: &mut Tables<'t>, slot: &Option<NamedSlot<'t>>) -> Res
     }
 }
 
+/// Adds what an operation names. Its variables and targets are numbers already in the text.
 fn note_op<'t>(tables: &mut Tables<'t>, op: &NamedOp<'t>) -> Result<(), AllocError>
     ensures { OnOk result (names_now tables.new ≡ record {
       structs = with_all_names tables.old.structs (op_structs (named_op_of op.now).op op.now.name.now);
@@ -178,7 +180,41 @@ fn note_op<'t>(tables: &mut Tables<'t>, op: &NamedOp<'t>) -> Result<(), AllocErr
         Instr::New(..) => tables.structs.note(op.name),
         Instr::Get(..) | Instr::Set(..) => tables.globals.note(op.name),
         Instr::Call(..) | Instr::Invoke(..) | Instr::Go(..) => tables.functions.note(op.name),
-        _ => Ok(()),
+        Instr::Int(..)
+        | Instr::Bool(..)
+        | Instr::Nil(..)
+        | Instr::Copy(..)
+        | Instr::CopyInt(..)
+        | Instr::CopyBool(..)
+        | Instr::Add(..)
+        | Instr::Sub(..)
+        | Instr::Mul(..)
+        | Instr::Div(..)
+        | Instr::Rem(..)
+        | Instr::Eq(..)
+        | Instr::Ne(..)
+        | Instr::Lt(..)
+        | Instr::Le(..)
+        | Instr::Gt(..)
+        | Instr::Ge(..)
+        | Instr::Neg(..)
+        | Instr::Not(..)
+        | Instr::IsNil(..)
+        | Instr::Len(..)
+        | Instr::Load(..)
+        | Instr::Store(..)
+        | Instr::At(..)
+        | Instr::Put(..)
+        | Instr::Slice(..)
+        | Instr::Chan(..)
+        | Instr::Recv(..)
+        | Instr::Send(..)
+        | Instr::Close(..)
+        | Instr::Print(..)
+        | Instr::Jump(..)
+        | Instr::Branch(..)
+        | Instr::Return(..)
+        | Instr::Leave => Ok(()),
     }
 }
 
@@ -192,7 +228,7 @@ fn note<'t>(tables: &mut Tables<'t>, item: &Item<'t>) -> Result<(), AllocError>
         Item::Function(_, _, result) => note_result(tables, result),
         Item::Slot(slot) => note_type(tables, &slot.ty),
         Item::Instr(instr) => note_op(tables, &instr.op),
-        _ => Ok(()),
+        Item::Head | Item::Entry(_) | Item::End => Ok(()),
     }
 }
 
@@ -244,6 +280,7 @@ pub(crate) fn number_names<'t>(
     ensures counts { IfOk result (λ counts. CountsAre counts (declared_in (map item_of items.now))) }
 {
     declare_all(tables, items)?;
+    // Between the two passes: the names that are declared come first, and those from these counts on are undeclared.
     let counts = counts_of(tables);
     note_all(tables, items)?;
     Ok(counts)

@@ -81,7 +81,7 @@ fn action_op<'t>(alloc: Global, done: Action<'t>, removes: Row<u32>) -> NamedOp<
     simple(alloc, done.instr, done.name, note)
 }
 
-/// An action with its removals.
+/// An action with its removals, which are the last word. The number of words before them selects the actions.
 fn act<'t>(alloc: Global, words: &[&'t [u8]]) -> Result<Option<NamedOp<'t>>, AllocError>
     ensures { IfOk result (λ r. option_map named_op_of r ≡ read_action_op (nows words.now)) }
 {
@@ -115,6 +115,7 @@ fn op<'t>(alloc: Global, words: &[&'t [u8]]) -> Result<Option<NamedOp<'t>>, Allo
     }
 }
 
+/// With the space after it, so that a longer word does not pass for `print`.
 fn is_print(text: &[u8]) -> bool
     ensures { result ≡ bytes_eq (take 6 text.now) (codes "print ") }
 {

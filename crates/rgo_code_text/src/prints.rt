@@ -1,5 +1,5 @@
-//! Prints in a code text, as they are read. Strings may contain spaces, so that a print is read from its two ends: the removals
-//! are its last word, and what is between is pieces.
+//! Prints in a code text, as they are read. Strings may contain spaces, so a print is not cut into words but read from its two ends:
+//! the removals are its last word, and the pieces are between `print` and them.
 
 ghost use Rattle.std.specs.Prelude.{◌≡◌, ◌++◌, [], codes, IfOk};
 ghost use Rattle.std.specs.Option.{option_map};
@@ -54,7 +54,7 @@ fn no_pieces(alloc: Global) -> Pieces
     }
 }
 
-/// `print .. -[..]`, by what follows `print`. Strings may contain spaces.
+/// `print .. -[..]`, by what follows `print`. Removals contain no space, so the last space of the line is before them.
 pub(crate) fn print<'t>(alloc: Global, bytes: &[u8]) -> Result<Option<NamedOp<'t>>, AllocError>
     ensures { IfOk result (λ r. IsReadFromBytes NamedOpFits op_text (codes "print " ++ bytes.now)
         (option_map named_op_of r)) }
@@ -63,6 +63,7 @@ pub(crate) fn print<'t>(alloc: Global, bytes: &[u8]) -> Result<Option<NamedOp<'t
     let Some(removes) = removes(alloc, &bytes[at..])? else {
         return Ok(None);
     };
+    // No space, so no word before the removals: a print without pieces.
     if at == 0 {
         return Ok(Some(printing(alloc, no_pieces(alloc), removes)));
     }

@@ -37,8 +37,8 @@ fn step<'t>(
     }
 }
 
-/// The items of a text's lines. What follows the last newline has to be empty, so that a text that was cut is refused, and lines
-/// may not end where more have to follow.
+/// The items of a text's lines. The text has to end with a newline, which refuses a text that was cut off, and it may not end where
+/// more lines have to follow.
 pub(crate) fn items(alloc: Global, text: &[u8]) -> Result<Vec<Item<'_>>, ReadError>
     requires { length text.now + 2 < 2 ^ 32 }
     ensures { MatchResult result (λ items. AreItems text.now (map item_of items.items)) (λ e. StopsIn text.now e) }
@@ -64,6 +64,7 @@ pub(crate) fn items(alloc: Global, text: &[u8]) -> Result<Vec<Item<'_>>, ReadErr
             None => return Err(ReadError::Refused(CodeText { line })),
         }
         at = at + len + 1;
+        // Cannot overflow, since each line takes a byte of the text.
         line = line + 1;
     }
 }

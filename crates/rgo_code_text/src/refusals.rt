@@ -1,4 +1,4 @@
-//! Texts that are not the text of code.
+//! Why a text is not the text of any code.
 
 ghost use Rattle.std.specs.Prelude.{◌≡◌};
 ghost use Rattle.rgo_code_text.specs.declared.refusals.ReadError.TheVariants.{NoMemory};

@@ -95,7 +95,7 @@ text_of_int (negsuc n) f = IsUtf8-from_ascii (45 ∷ decimal (suc n)) ascii
     ascii zero = omega arith
     ascii (suc i) = IsAscii-decimal (suc n) (omega (arith, f)) i
 
--- bytes that are no text are no number
+-- bytes that are not UTF-8 are not a number
 pub int_is_text : (word : List ℕ) → ¬ (IsUtf8 word) → None ≡ read_int word
 int_is_text word binary = sym (int_none word (λ z f q. binary (subst IsUtf8 (sym q) (text_of_int z f))))
 

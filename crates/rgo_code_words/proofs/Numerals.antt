@@ -40,7 +40,7 @@ number_sound word k e =
     let p = printed is_small decimal word (digits_value 10 word) k e in
     (sym p.2 ∙ ap decimal p.0, subst (λ n. n < 2 ^ 32) p.0 ((Decides-ltb (digits_value 10 word) (2 ^ 32)).0 p.1))
 
--- a word that is no small number
+-- a word that is not a small number
 pub number_none : (word : List ℕ) → ((k : ℕ) → k < 2 ^ 32 → word ≢ decimal k) → read_number word ≡ None
 number_none word nowhere = by (read_number word) refl
   where
@@ -66,7 +66,7 @@ pub number_nowhere : (word : List ℕ) → ((k : ℕ) → k < 2 ^ 32 → word �
     → None ≡ read_number word
 number_nowhere word none = sym (number_none word (λ k l q. not_none k (none k l q)))
 
--- bytes that are no text are no number
+-- bytes that are not UTF-8 are not a number
 pub number_is_text : (word : List ℕ) → ¬ (IsUtf8 word) → None ≡ read_number word
 number_is_text word binary = sym (number_none word is_text)
   where

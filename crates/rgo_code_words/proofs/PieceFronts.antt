@@ -1,4 +1,5 @@
--- The piece at the front of some bytes: there is at most one.
+-- The piece at the front of some bytes: there is at most one. A string ends at the first quote that is not escaped, and a variable at a
+-- comma or at the end.
 use Rattle.std.proofs.Common.{◌≡◌, ℕ, ◌+◌, ◌<◌, ◌≤◌, ◌^◌, ◌==◌, ◌≢◌, nat_lt, Bool, true, false, List, [], ◌∷◌, ◌++◌, length, take, drop, get_or, Option, Some, None, refl, sym, ap, subst, ◌∙◌, arith, append_assoc, length-drop, get_or-drop}
 use Rattle.std.specs.List.{flat_map, position_or_len}
 use Rattle.std.specs.Bool.{Decides}
@@ -32,7 +33,7 @@ pub record Same (s t x y : List ℕ) : Type 0 where
 same_byte : (b c m n : ℕ) → ◌≡◌ {A = Option (ℕ × ℕ)} (Some (b, m)) (Some (c, n)) → b ≡ c
 same_byte b c m n e = ap (λ p. p.0) (some_same (b, m) (c, n) e)
 
--- the inside of a string goes as far as it can
+-- the inside of a string is as long as it can be
 insides_one : (s t x y : List ℕ) → flat_map byte_word s ++ x ≡ flat_map byte_word t ++ y → AreBytes s → AreBytes t
     → string_byte x ≡ None → string_byte y ≡ None → Same s t x y
 insides_one [] [] x y e f g p q = record { inside = refl; rest = e }

@@ -197,7 +197,7 @@ pub record Led (list : List ℕ) (ps : List Piece) (fs : List ℕ) (at : ℕ) (a
   pub from_is : from ≡ fs ++ others
   pub rest : AreListed (drop at list) more others
 
--- what is left goes on with these pieces, and a list can only be what was read with what is left
+-- what is left continues with these pieces, and a list can only be what was read with what is left
 pub record Leads (list : List ℕ) (ps : List Piece) (fs : List ℕ) (at : ℕ) : Type 0 where
   pub onto : (more : List Piece) (others : List ℕ) → AreListed (drop at list) more others
       → AreListed list (ps ++ more) (fs ++ others)

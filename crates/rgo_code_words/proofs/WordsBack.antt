@@ -1,4 +1,4 @@
--- Words are read back, and nothing else is read.
+-- Words are read back, and nothing else is read: for each kind of word a lemma `.._back` and a lemma `.._is`.
 use Rattle.std.proofs.Common.{◌≡◌, ℕ, ◌<◌, ◌≤◌, ◌==◌, Bool, true, false, List, [], ◌∷◌, ◌++◌, map, length, Option, Some, None, if◌then◌else◌, refl, sym, ap, subst, ◌∙◌, arith, codes, decimal}
 use Rattle.std.specs.List.{All}
 use Rattle.std.specs.Option.{option_map}

@@ -16,7 +16,7 @@ hex_value d =
     if nat_le 48 d && nat_le d 57 then Some (d - 48)
     else (if nat_le 97 d && nat_le d 102 then Some (d - 87) else None)
 
--- a byte that is printed by its number, and one that is printed as it is
+-- A byte that is printed by its number, and one that is printed as it is. A newline is neither: it has an escape of its own.
 abbrev pub is_numbered : ℕ → Bool
 is_numbered b = not (b == 10) && (nat_lt b 32 || nat_lt 126 b)
 
@@ -48,7 +48,7 @@ string_byte bytes =
 abbrev pub AreBytes : List ℕ → Type 0
 AreBytes bytes = PieceFits (piece.Text bytes)
 
--- the inside of a string, and how many bytes it takes: no further byte of a string follows
+-- The inside of a string, and how many bytes it takes. No further byte of a string follows (`stops`), else each shorter inside would do.
 pub record IsStringInside (bytes inside : List ℕ) (len : ℕ) : Type 0 where
   pub cut : bytes ≡ flat_map byte_word inside ++ drop len bytes
   pub within : len ≤ length bytes
@@ -62,7 +62,7 @@ abbrev pub value_list : Option ℕ → List ℕ
 value_list None = []
 value_list (Some v) = v ∷ []
 
--- after a variable a comma follows, or nothing
+-- After a variable a comma follows, or nothing: `v1` is not at the front of `v12`. A string ends with its quote.
 abbrev pub IsDelimited : Piece → List ℕ → Type 0
 IsDelimited (piece.Text bytes) rest = ⊤
 IsDelimited piece.Value rest = get_or rest 0 44 ≡ 44

@@ -28,7 +28,8 @@ IsReadFromBytes {A} Fits text bytes None = (a : A) → Fits a → bytes ≢ text
 
 -- ---- numbers
 
--- what is read of a word is a value that fits and is printed as the word
+-- What is read of a word is a value that fits and is printed as the word. The parsers of std take more, such as leading zeros, with which
+-- a value would have several words.
 abbrev pub if_printed : {A : Type 0} → (fits : A → Bool) → (print : A → List ℕ) → List ℕ → A → Option A
 if_printed fits print word a = if fits a && bytes_eq (print a) word then Some a else None
 
@@ -131,7 +132,7 @@ abbrev pub if_ascending : Option (List ℕ) → Option (List ℕ)
 if_ascending None = None
 if_ascending (Some names) = if is_ascending names then Some names else None
 
--- names of regions in brackets, after a byte that says what is done to them
+-- names of regions in brackets, after a byte that says what is done to them; a set of names is written in ascending order only
 abbrev pub read_regions : ℕ → List ℕ → Option (List ℕ)
 read_regions sign word = if_ascending (read_within (read_lettered 114) (bytes_inside (sign ∷ 91 ∷ []) 93 word))
 
@@ -175,7 +176,7 @@ by_layer None bare slice chan = bare
 by_layer (Some layer.Slice) bare slice chan = with_layer layer.Slice slice
 by_layer (Some layer.Chan) bare slice chan = with_layer layer.Chan chan
 
--- the type that begins after n bytes
+-- the type that begins after n bytes; counting them down lets it recurse on the word, though layers have different lengths
 abbrev pub type_after : List ℕ → (n : ℕ) → Option NamedType
 type_after [] n = None
 type_after (b ∷ word) (suc n) = type_after word n

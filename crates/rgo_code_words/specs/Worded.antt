@@ -17,6 +17,7 @@ use Rattle.rgo_code_printing.specs.Words.{value_count}
 abbrev pub is_code_letter : ℕ → Bool
 is_code_letter b = (nat_le 65 b && nat_le b 90) || (nat_le 97 b && nat_le b 122) || b == 95
 
+-- a letter, `_` or a digit
 abbrev pub is_code_word_byte : ℕ → Bool
 is_code_word_byte b = is_code_letter b || (nat_le 48 b && nat_le b 57)
 
@@ -41,21 +42,25 @@ is_word (b ∷ bytes) = is_code_letter b && list_all is_code_word_byte bytes
 unfoldable pub is_name : List ℕ → Bool
 is_name bytes = is_word bytes && not (is_among keywords bytes)
 
+-- each of these is a name
 abbrev pub AreNames : List (List ℕ) → Type 0
 AreNames names = All (λ name. is_name name ≡ true) names
 
 -- ---- numbers
 
+-- a number of 32 bits
 abbrev pub IsSmallNumber : ℕ → Type 0
 IsSmallNumber k = k < 2 ^ 32
 
+-- each of these is a number of 32 bits
 abbrev pub AreSmall : List ℕ → Type 0
 AreSmall ks = All IsSmallNumber ks
 
--- a list of names of regions
+-- a list of names of regions, in ascending order, so that a set has one word
 abbrev pub AreRegions : List ℕ → Type 0
 AreRegions names = IsStrictlyIncreasing names × AreSmall names
 
+-- the name of a class has a word if it is a number of 32 bits; other classes always have one
 abbrev pub ClassFits : Class → Type 0
 ClassFits (class.Name k) = IsSmallNumber k
 ClassFits class.NoClass = ⊤
@@ -63,6 +68,7 @@ ClassFits class.Global = ⊤
 
 -- ---- what instructions have
 
+-- the operator has a word; `&&` and `||` have none, since three-address code has branches in their place
 abbrev pub OperatorFits : BinaryOp → Type 0
 OperatorFits binary.And = ⊥
 OperatorFits binary.Or = ⊥
@@ -83,5 +89,6 @@ abbrev pub PieceFits : Piece → Type 0
 PieceFits (piece.Text bytes) = All (λ b. b < 2 ^ 8) bytes
 PieceFits piece.Value = ⊤
 
+-- the variable, if there is one, has a number of 32 bits
 abbrev pub ValueFits : Option ℕ → Type 0
 ValueFits value = IfSome value IsSmallNumber

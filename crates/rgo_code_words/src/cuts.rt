@@ -15,7 +15,8 @@ pub fn len_to(bytes: &[u8], byte: u8) -> usize
     bytes.iter().take_while(|b| **b != byte).count()
 }
 
-/// A line, cut at its first `n` spaces. The last word is what is left of the line.
+/// A line, cut at its first `n` spaces. The last word is the rest of the line, which may contain further spaces: a string may, and
+/// a list of fields does.
 pub fn cut(alloc: Global, line: &[u8], n: usize) -> Result<Vec<&[u8]>, AllocError>
     ensures { IfOk result (λ words. nows words.items ≡ spec.cut_line n line.now) }
 {

@@ -50,6 +50,7 @@ pub fn numbers(alloc: Global, list: &[u8], letter: u8) -> Result<Option<Row<u32>
     some_numbers(alloc, list, letter)
 }
 
+/// Lists that do not ascend are refused, so that a set of names has one text.
 fn is_ascending(numbers: &[u32]) -> bool
     ensures { result ≡ spec.is_ascending numbers.now }
 {

@@ -26,7 +26,7 @@ fn hex_value(digit: u8) -> Option<u8>
     }
 }
 
-/// Whether a byte is printed by its number.
+/// Whether a byte is printed by its number. A newline is not, since it has a form of its own and each byte has only one.
 fn is_numbered(byte: u8) -> bool
     ensures { result ≡ spec.is_numbered byte }
 {
@@ -90,7 +90,8 @@ fn string_byte(bytes: &[u8]) -> Option<(u8, usize)>
     }
 }
 
-/// The inside of a string, and how many bytes it takes.
+/// The inside of a string, and how many bytes it takes. It ends before the first byte that is neither plain nor an escape, where the
+/// caller looks for the quote.
 fn string_inside(alloc: Global, bytes: &[u8]) -> Result<(Name, usize), AllocError>
     ensures { IfOk result (λ r. IsStringInside bytes.now r.0 r.1) }
 {

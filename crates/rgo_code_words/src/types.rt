@@ -9,7 +9,7 @@ use crate::words::{is, is_name};
 use rgo_typed::{Base, Layer, Row, Type};
 use std::alloc::{AllocError, Global};
 
-/// A type, and the name of its struct, if it has one. The number of that is not known yet.
+/// A type, and the name of its struct, if it has one. A pointer has number 0 until all names of the text are known.
 #[derive(Drop)]
 pub struct NamedType<'t> {
     pub ty: Type,
@@ -65,6 +65,7 @@ pub fn named_type(alloc: Global, word: &[u8]) -> Result<Option<NamedType<'_>>, A
 {
     let mut layers = Vec::new(alloc);
     let mut at = 0;
+    // No base begins like a layer, so the layers are all that can be read in front.
     while let Some(l) = layer(&word[at..]) {
         layers.push(l)?;
         at = at + width(l);

@@ -1,4 +1,5 @@
--- Paths through blocks.
+-- Paths through blocks. Within a block a path has no choice, so liveness at its first instruction depends on the first use in the block,
+-- and else on the blocks that follow: this lets the search skip instructions.
 use Rattle.std.proofs.Common.{◌≡◌, ◌⊎◌, inl, inr, ⊎_elim, ◌↔◌, ℕ, zero, suc, ◌<◌, ◌≤◌, ◌+◌, ◌-◌, List, [], ◌∷◌, length, get_or, refl, sym, ap, ◌∙◌, subst, arith}
 use Rattle.std.specs.List.{Contains}
 use Rattle.rgo_graphs.specs.Rows.{Relates, row_at, IsTransposed}

@@ -32,7 +32,7 @@ member_has xs x h =
     let same : x ≡ any.1 = nat_eq_is x any.1 any.4 in
     subst (Contains xs) (sym same) (any.0, any.2, any.3)
 
--- the same relation from the other side, told by tests
+-- the same relation from the other side, by tests
 pub tests_transposed : (exits before : List (List ℕ)) → IsTransposed exits before
     → (h s : ℕ) → has s (row_at exits h) ≡ has h (row_at before s)
 tests_transposed exits before same h s = both (has s (row_at exits h)) (has h (row_at before s))

@@ -1,4 +1,4 @@
--- Blocks from joins.
+-- Blocks from joins: the first and the last instruction of each block, as the two loops over the joins compute them.
 use Rattle.std.proofs.Common.{◌≡◌, ◌⊎◌, inl, inr, ⊎_elim, ℕ, zero, suc, ◌<◌, ◌≤◌, ◌+◌, ◌-◌, Bool, true, false, List, [], ◌∷◌, length, get_or, refl, sym, ap, ◌∙◌, subst, arith}
 use Rattle.std.specs.List.{Contains}
 use Rattle.rgo_graphs.specs.Rows.{Relates, IsTransposed}

@@ -27,7 +27,7 @@ pub record IsGraph (g : Graph) : Type 0 where
   pub read : (i v : ℕ) → Relates (rows_of g.reads.items) i v → v < g.variables
   pub written : (i v : ℕ) → Relates (rows_of g.writes.items) i v → v < g.variables
 
--- new has what old has, and the target if it is below count
+-- new has what old has, and the target if it is below count; past the last instruction nothing is read, so that target is not needed
 abbrev pub AddsTarget : (old new : List ℕ) → (target count : ℕ) → Type 0
 AddsTarget old new target count = (j : ℕ) → Contains new j ↔ (Contains old j ⊎ ((j ≡ target) × (j < count)))
 

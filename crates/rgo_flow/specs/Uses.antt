@@ -3,7 +3,7 @@ use Rattle.std.specs.Prelude.{◌≡◌, ◌<◌, ◌≤◌, ◌⊎◌, ◌^◌,
 use Rattle.rgo_flow.specs.declared.uses.FirstUse.{FirstUse}
 use Rattle.rgo_flow.specs.declared.uses.FirstUse.TheVariants.{Read, Written, Unused}
 
--- the least of the points at or after `from`; 2 ^ 32 - 1 if there is none
+-- the least of the points at or after `from`; 2 ^ 32 - 1 if there is none, which is the number of no instruction
 pub record IsNext (points : List ℕ) (from next : ℕ) : Type 0 where
   pub is : (Contains points next × (from ≤ next)) ⊎ (next ≡ 2 ^ 32 - 1)
   pub least : (p : ℕ) → Contains points p → from ≤ p → next ≤ p
@@ -16,7 +16,8 @@ pub record IsRead (readers writers : List ℕ) (i e : ℕ) : Type 0 where
   pub read : Contains readers at
   pub before : (m : ℕ) → i ≤ m → m < at → Contains writers m → ⊥
 
--- written at some point from i through e, and not read up to it
+-- Written at some point from i through e, and not read up to it. That point is included, since an instruction that does both reads
+-- first.
 pub record IsWritten (readers writers : List ℕ) (i e : ℕ) : Type 0 where
   pub at : ℕ
   pub from : i ≤ at

@@ -40,7 +40,7 @@ fn joins(
     Ok(joins)
 }
 
-/// The last instruction of the block of each, from the end backwards.
+/// The last instruction of the block of each, from the end backwards, since it is the same as that of the next one in the block.
 fn lasts(alloc: Global, joins: &[bool]) -> Result<Vec<u32>, AllocError>
     requires few { length joins.now < 2 ^ 32 }
     ensures { IfOk result (λ last. Lasts joins.now last.items) }

@@ -1,4 +1,4 @@
-//! The instructions of a function as rows of numbers.
+//! The instructions of a function as rows of numbers: each one is decoded once, and the searches for all variables use the rows.
 
 ghost use Rattle.std.specs.Prelude.{◌≡◌, ◌+◌, ◌↔◌, ◌<◌, ◌^◌, ℕ, Some, length, Contains, OnOk, IfOk};
 ghost use Rattle.rgo_graphs.specs.Rows.{Relates, rows_of};
@@ -66,7 +66,7 @@ fn variable_row(alloc: Global, variables: ReadVariables<'_>) -> Result<Vec<u32>,
     Ok(row)
 }
 
-/// The rows of an instruction, here and below. Numbers are those of instructions, so that there is an operation to ask.
+/// The rows of an instruction, here and below. Callers have numbers of instructions only, so `None` does not occur.
 fn successor_row(alloc: Global, function: &TacFn, at: usize) -> Result<Vec<u32>, AllocError>
     ensures { IfOk result (λ row. (j : ℕ) → Contains row.items j ↔ LeadsInside function.now at j) }
 {
@@ -125,7 +125,8 @@ fn width(rows: &[Vec<u32>]) -> usize
     width
 }
 
-/// One more than the greatest number of a variable that is read or written.
+/// One more than the greatest number of a variable that is read or written. It is taken from the rows and not from the function: code
+/// that was not checked may name variables that do not exist.
 fn variable_count(reads: &[Vec<u32>], writes: &[Vec<u32>]) -> usize
     ensures read { (i x : ℕ) → Relates (rows_of reads.now) i x → x < result }
     ensures written { (i x : ℕ) → Relates (rows_of writes.now) i x → x < result }

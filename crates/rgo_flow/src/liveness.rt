@@ -13,7 +13,8 @@ use rgo_graphs::transposed;
 use rgo_tac::TacFn;
 use std::alloc::{AllocError, Global};
 
-/// The liveness that the rows of a function imply.
+/// The liveness that the rows of a function imply. The rows are turned around first: the search goes backwards, from what reads a
+/// variable to what may come before.
 fn live_in(alloc: Global, graph: &Graph) -> Result<Liveness, AllocError>
     requires graph { IsGraph graph.now }
     ensures { IfOk result (λ live. (v i : ℕ) → IsLive live v i ↔ IsLiveIn graph.now v i) }

@@ -27,6 +27,7 @@ fn start_of(writers: &[u32], first: u32, end: u32) -> u32
     first.max(writers[count - 1] + 1)
 }
 
+/// Adds the instructions from `first` to `to` that follow the last writer before `end`: before that one, the value is another.
 fn add(
     ranges: &mut Vec<Range>,
     writers: &[u32],

@@ -1,4 +1,5 @@
-//! The tables of a function's liveness.
+//! The tables of a function's liveness. Rows of readers, writers and solved blocks ascend, since questions search in them; liveness is kept
+//! for blocks, and a question follows one block to its end.
 
 ghost use Rattle.rgo_graphs.specs.Rows.{rows_of};
 ghost use Rattle.rgo_flow.specs.Runs.{AreRuns};

@@ -6,6 +6,7 @@ ghost use Rattle.rgo_flow.specs.Uses.{IsFirstUse, IsNext};
 
 use std::alloc::{AllocError, Global};
 
+/// What is done first with a variable. Its old value is needed only if that is a read.
 #[derive(Clone, Copy, Debug, PartialEq, Eq)]
 pub enum FirstUse {
     Read,

@@ -1,4 +1,4 @@
-//! What is reached backwards from seeds.
+//! What is reached backwards from seeds. The points that were found are also the queue of the search: each one is entered once.
 
 ghost use Rattle.std.specs.Prelude.{◌≡◌, ◌↔◌, ◌∷◌, List, [], ℕ, ◌<◌, ◌≤◌, length, All, Contains, OnOk, IfOk, slice_index};
 ghost use Rattle.rgo_graphs.specs.Rows.{Relates, rows_of};
@@ -7,6 +7,7 @@ ghost use Rattle.rgo_graphs.specs.Visits.{Bars, Visits};
 
 use std::alloc::{AllocError, Global};
 
+/// Adds a point unless this search has found it, which its mark says.
 fn visit(found: &mut Vec<u32>, marks: &mut [usize], stamp: usize, p: u32) -> Result<(), AllocError>
     requires inside { p < length marks.old }
     ensures len { length marks.new ≡ length marks.old }
@@ -40,6 +41,7 @@ fn visit_all(
     Ok(())
 }
 
+/// Marks barriers without adding them, so that the search takes them for found and does not enter them.
 fn bar_all(marks: &mut [usize], stamp: usize, these: &[u32])
     requires inside { (p : ℕ) → Contains these.now p → p < length marks.old }
     ensures bars { Bars stamp marks.old marks.new these.now }
@@ -72,6 +74,7 @@ pub fn reached(
 {
     let mut found = Vec::new(alloc);
     visit_all(&mut found, marks, stamp, seeds)?;
+    // After the seeds: a seed is found even if it is a barrier.
     bar_all(marks, stamp, barriers);
     let mut next = 0;
     while next < found.len() {

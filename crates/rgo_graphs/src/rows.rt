@@ -1,4 +1,4 @@
-//! The rows of a relation, from the other side.
+//! Relations as rows of numbers, and the same relation from the other side.
 
 ghost use Rattle.std.specs.Prelude.{◌≡◌, ℕ, ◌+◌, ◌^◌, ◌<◌, ◌≤◌, length, vec_len, Contains, OnOk, IfOk};
 ghost use Rattle.rgo_graphs.specs.Rows.{AllAscending, Adds, IsTransposed, Relates, rows_of};
@@ -32,7 +32,7 @@ pub fn add_row(rows: &mut Vec<Vec<u32>>, these: &[u32], item: u32) -> Result<(),
     Ok(())
 }
 
-/// So many rows without numbers.
+/// `count` rows without numbers.
 pub fn empty_rows(alloc: Global, count: usize) -> Result<Vec<Vec<u32>>, AllocError>
     ensures len { IfOk result (λ rows. vec_len rows ≡ count) }
     ensures empty { IfOk result (λ rows. (i x : ℕ) → Relates (rows_of rows.items) i x → ⊥) }
@@ -57,6 +57,7 @@ pub fn transposed(
     ensures ascending { IfOk result (λ transposed. AllAscending (rows_of transposed.items)) }
 {
     let mut transposed = empty_rows(alloc, count)?;
+    // Row by row, so that each transposed row ascends without being sorted.
     for (i, row) in rows.iter().enumerate() {
         add_row(&mut transposed, row, i as u32)?;
     }

@@ -1,4 +1,4 @@
--- Of one three-address code with the same classes there is one code that keeps the rules.
+-- Three-address code with given classes has one code that keeps the rules.
 use Rattle.std.proofs.Common.{◌≡◌, ◌≤◌, ℕ, List, [], ◌∷◌, map, length, Option, Some, None, slice_get, refl, sym, ap, ◌∙◌, subst, arith}
 use Rattle.std.specs.Prelude.{is_some}
 use Rattle.std.specs.Option.{option_map}

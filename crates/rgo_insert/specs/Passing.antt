@@ -19,7 +19,8 @@ class_of_target f (Some d) = class_of f d
 abbrev pub actual_classes : CodeFn → (to : Option ℕ) → (from : List ℕ) → List Class
 actual_classes f to from = map (class_of f) from ++ class_of_target f to ∷ []
 
--- for each region parameter, the class of an actual for a formal of this class
+-- For each region parameter, the class of an actual for a formal of this class. Any such actual will do: the caller's classes join all
+-- that is passed for one class of the callee.
 pub record AreClassesPassed (formals actuals regions passes : List Class) : Type 0 where
   pub len : length passes ≡ length regions
   pub each : (p i k : ℕ) → slice_get regions p ≡ Some (Name k) → slice_get formals i ≡ Some (Name k)

@@ -35,7 +35,8 @@ fn notes_of(
     Ok(notes)
 }
 
-/// What a function with these classes says of regions.
+/// What a function with these classes says of regions. The names that are live depend on its classes only, so they are known before
+/// any note.
 fn filled(
     alloc: Global,
     functions: &Bare<'_>,

@@ -14,6 +14,7 @@ use rgo_tac::Op;
 use rgo_typed::Row;
 use std::alloc::{AllocError, Global};
 
+/// What an instruction protects. A goroutine's start protects nothing: the new goroutine has a stake of its own in each region.
 fn protects_of(
     alloc: Global,
     f: &CodeFn<'_>,

@@ -22,6 +22,7 @@ fn formal_classes(alloc: Global, callee: &CodeFn<'_>) -> Result<Vec<Class>, Allo
     Ok(classes)
 }
 
+/// The class of a call's target. In typed code a call has none exactly if its callee has no result.
 fn target_class(f: &CodeFn<'_>, to: Option<u32>) -> Class
     ensures { result ≡ spec.class_of_target f.now to }
 {

@@ -1,4 +1,5 @@
--- Two codes of one term end at the same point, leave the value in the same variable, and are the same between.
+-- Two codes of one term end at the same point, leave the value in the same variable, and are the same between. By induction on the
+-- term: each part begins where the one before it ends, so no point is left open.
 use Rattle.std.proofs.Common.{◌≡◌, ⊎_elim, ℕ, ◌+◌, ◌<◌, ◌≤◌, List, [], ◌∷◌, Some, None, slice_get}
 use Rattle.std.proofs.Common.{refl, ap, sym, ◌∙◌, subst, arith}
 use Rattle.std.proofs.lemmas.Bool.{cases_lt}
@@ -67,7 +68,7 @@ module _ (f g : TacFn) where
     variables = λ i from to. absurd (omega (arith, from, to));
   }
 
-  -- one instruction that gives a value to the next variable
+  -- one instruction that sets the next variable
   pub one_value : (p p2 : LoweringPoint) (op op2 : Op) (place : ℕ) (ty : «Type») → p2 ≡ p → op2 ≡ op → OpAt f p.instr op place
       → OpAt g p2.instr op2 place → slice_get f.variables p.variable ≡ Some ty
       → slice_get g.variables p2.variable ≡ Some ty → Agree p (after_value p)

@@ -1,4 +1,5 @@
--- Two codes of one statement end at the same point and in the same scope; where their targets are the same, so are they.
+-- Two codes of one statement end at the same point and in the same scope; if their targets are the same, so are they. In this order,
+-- since the targets of a loop are known only once its body has ended.
 use Rattle.std.proofs.Common.{◌≡◌, ℕ, ◌+◌, List, [], ◌∷◌, ◌++◌, Option, Some, None, refl, ap, sym, ◌∙◌}
 use Rattle.rgo_typed.specs.declared.actions.Action.TheVariants.{Copy, Binary}
 use Rattle.rgo_typed.specs.Tree as tree
@@ -77,7 +78,7 @@ module _ (functions : List Function) (f g : TacFn) where
             x.9;
       }
 
-  -- one instruction behind terms, which gives no value
+  -- one instruction after terms, which returns no value
   behind_terms : (Targets : Type 0) (ts : Terms) (scope scope2 : LoweringScope) → scope2 ≡ scope → (p p2 : LoweringPoint) → p2 ≡ p
       → (ds ds2 : List ℕ) (mid mid2 : LoweringPoint) → TermsAt functions f scope ts p ds mid
       → TermsAt functions g scope2 ts p2 ds2 mid2 → (op : List ℕ → Op) (place : ℕ) → OpAt f mid.instr (op ds) place
@@ -93,7 +94,7 @@ module _ (functions : List Function) (f g : TacFn) where
             (then f g p mid (next_point mid) a.code (one f g mid mid2 _ _ place a.last (ap op a.value) v w)) e;
       }
 
-  -- the same behind one term
+  -- the same after one term
   behind_term : (Targets : Type 0) (t : Term) (scope scope2 : LoweringScope) → scope2 ≡ scope → (p p2 : LoweringPoint) → p2 ≡ p
       → (d d2 : ℕ) (mid mid2 : LoweringPoint) → TermAt functions f scope t p d mid → TermAt functions g scope2 t p2 d2 mid2
       → (op op2 : Op) → (d2 ≡ d → op2 ≡ op) → (place : ℕ) → OpAt f mid.instr op place → OpAt g mid2.instr op2 place

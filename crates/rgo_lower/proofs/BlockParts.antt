@@ -1,4 +1,5 @@
--- The code of statements with statements in them, put together from that of their parts.
+-- The code of statements with statements in them, put together from that of their parts. The hard case is the loop: its labels are open
+-- while test, body and post statement are emitted, and must still be open when they are placed.
 use Rattle.std.proofs.Common.{◌≡◌, arith, ℕ, ◌+◌, ◌<◌, ◌≤◌, Bool, true, ◌||◌, ◌&&◌, List, ◌∷◌, length, map, drop, get_or, refl, sym, ap, ◌∙◌, subst}
 use Rattle.std.specs.Prelude.{Option, Some, None, slice_get, nat_eq}
 use Rattle.std.proofs.lemmas.List.{at_drop_more, at_drop_all}

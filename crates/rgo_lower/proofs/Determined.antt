@@ -1,4 +1,5 @@
--- A program has one code.
+-- A program has one code. By `AgreeingStatements` two codes of a function agree instruction by instruction, and by the lengths in
+-- `IsLoweredFn` they have no other instructions or variables.
 use Rattle.std.proofs.Common.{◌≡◌, ⊎_elim, ℕ, zero, suc, ◌<◌, List, [], ◌∷◌, length, take}
 use Rattle.std.proofs.Common.{slice_get, refl, ap, sym, ◌∙◌, arith}
 use Rattle.std.proofs.lemmas.Bool.{cases_lt}

@@ -1,4 +1,5 @@
--- The tree of a well-formed program that is not too large fits.
+-- The tree of a well-formed program that is not too large fits. By induction on the typing: it gives the numbers of operands, and the
+-- counts of the program bound every number.
 use Rattle.std.proofs.Common.{◌≡◌, ℕ, zero, suc, ◌+◌, ◌<◌, ◌≤◌, ◌^◌, Bool, true, false, ◌&&◌, List, [], ◌∷◌, ◌++◌, length, map, refl, sym, ap, ◌∙◌, subst, arith, length-append}
 use Rattle.std.specs.Prelude.{Option, Some, None, slice_get, nat_eq, nat_lt}
 use Rattle.std.specs.List.{list_all}

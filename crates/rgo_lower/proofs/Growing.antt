@@ -1,4 +1,5 @@
--- Builders that grow: lists, single instructions, and functions that complete what a builder was given.
+-- Builders that grow: lists, single instructions, and functions that complete what a builder was given. By `earlier` a function that
+-- completes a builder completes all earlier ones, so what was said of their code still holds.
 use Rattle.std.proofs.Common.{◌≡◌, ℕ, zero, suc, ◌+◌, ◌≤◌, arith, List, [], ◌∷◌, ◌++◌, length, get_or, refl, sym, ap, ◌∙◌, subst, length-append, append_assoc}
 use Rattle.std.specs.Prelude.{Some, None, Result, Ok, Err, IfOk, slice_get, slice_set}
 use Rattle.std.proofs.lemmas.Option.{get_or_from_slice_get}
@@ -151,7 +152,7 @@ op_added a b i op place is means =
           ∙ ap (λ z. Some (record { op = z; place = place })) (means w c);
     }
 
--- an instruction that gives a new variable its value
+-- an instruction that sets a new variable
 pub value_added : (a b c : BuilderParts) (i : Instr) (op : ℕ → Op) (ty : «Type») (place d : ℕ) → d ≡ length a.variables
     → b ≡ with_emitted_variable a ty → c ≡ with_emitted_line b i place
     → ((w : Whole) → Completes w c → op_of w.lists w.pieces (resolved_instr w.leads i) ≡ op d)

@@ -1,4 +1,5 @@
--- Labels: made, open for a while, then placed.
+-- Labels: made, open for a while, then placed. To place a label is the only change of a builder that is not growth; by `Placed.grown` it
+-- is growth again for every builder from before the label was made.
 use Rattle.std.proofs.Common.{◌≡◌, ◌≢◌, ℕ, zero, suc, ◌+◌, ◌<◌, List, [], ◌∷◌, ◌++◌, length, refl, sym, ap, ◌∙◌, subst, arith}
 use Rattle.std.specs.Prelude.{Option, Some, None, slice_get, slice_set}
 use Rattle.std.proofs.lemmas.Option.{slice_get_past, slice_get_within}
@@ -61,7 +62,7 @@ unmade_before a b k g e = cases (slice_get a.labels k) refl
     cases None is = is
     cases (Some x) is = absurd (none_some (slice_get b.labels k) x e (g.labels k x is))
 
--- a label that is there is not one that is made later
+-- a label that exists is not one that is made later
 pub apart : (a : BuilderParts) (j k : ℕ) → slice_get a.labels j ≡ Some None → slice_get a.labels k ≡ None → j ≢ k
 apart a j k there unmade e = none_some (slice_get a.labels k) None unmade (ap (slice_get a.labels) (sym e) ∙ there)
 

@@ -1,4 +1,5 @@
--- The code of statements without statements in them, put together from that of their parts.
+-- The code of statements without statements in them, put together from that of their parts. Most of them
+-- declare nothing: for these the scope stays, and `plain` says so once.
 use Rattle.std.proofs.Common.{◌≡◌, ◌≢◌, ℕ, ◌+◌, ◌<◌, ◌≤◌, arith, Bool, true, false, ◌||◌, List, [], ◌∷◌, ◌++◌, length, get_or, refl, sym, ap, ◌∙◌, subst}
 use Rattle.std.specs.Prelude.{Option, Some, None, nat_eq, if◌then◌else◌}
 use Rattle.std.proofs.lemmas.Bool.{eqb-true, eqb-false}

@@ -1,4 +1,5 @@
--- The code of terms, put together from that of their parts.
+-- The code of terms, put together from that of their parts. The hard case is `&&` and `||`: the label of their end stays open while the
+-- right side is emitted, and `logic_end` follows it to where it is placed.
 use Rattle.std.proofs.Common.{◌≡◌, ℕ, zero, suc, ◌+◌, ◌<◌, ◌≤◌, Bool, true, false, ◌&&◌, List, [], ◌∷◌, length, map, drop, get_or, refl, sym, ap, ◌∙◌, subst, arith}
 use Rattle.std.specs.Prelude.{Option, Some, None, slice_get}
 use Rattle.std.proofs.lemmas.List.{drop_more, at_drop_more, at_drop_all}

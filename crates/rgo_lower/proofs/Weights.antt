@@ -1,4 +1,4 @@
--- The size of a statement: the measure by which its lowering ends.
+-- The size of a statement: the measure by which its lowering ends. Each item of a list is lighter than the list (`lighter`).
 use Rattle.std.proofs.Common.{◌≡◌, ℕ, zero, suc, ◌+◌, ◌<◌, List, [], ◌∷◌, length, map, get_or, arith, subst, sym}
 use Rattle.rgo_typed.specs.Tree as tree
 use Rattle.rgo_typed.specs.Tree.{Stmt, Stmts, stmts_of}

@@ -135,7 +135,7 @@ InstrEncodes i op = (leads : ℕ → ℕ) (lists : List (List ℕ)) (pieces : Li
 abbrev pub Kept : {A : Type 0} → List A → List A → Type 0
 Kept {A} xs ys = (i : ℕ) (x : A) → slice_get xs i ≡ Some x → slice_get ys i ≡ Some x
 
--- what was there is as it was, unplaced labels too
+-- What was there is as it was, unplaced labels too: the code of a part of a program places only labels that it has made.
 pub record Grown (old new : BuilderParts) : Type 0 where
   pub lines : Kept old.lines new.lines
   pub variables : Kept old.variables new.variables
@@ -155,7 +155,8 @@ pub record Whole : Type 0 where
   pub lists : List (List ℕ)
   pub pieces : List (List Piece)
 
--- the function has all that the builder was given
+-- The function has all that the builder was given. Emitted code is described by all finished functions that complete it: where its
+-- labels lead is known only at the end.
 pub record Completes (w : Whole) (b : BuilderParts) : Type 0 where
   pub lines :
       (i : ℕ) (l : Line) → slice_get b.lines i ≡ Some l
@@ -209,7 +210,8 @@ calls n from to = Call (Some to) n from
 
 -- ---- terms
 
--- the scope of the code has the variables in scope, each with its slot, and no others
+-- The scope of the code has the variables in scope, each with its slot, and no others: a declaration needs a variable that is not in
+-- scope yet.
 pub record ScopeHasSlots (slots : List ℕ) (g : InScope) (scope : LoweringScope) : Type 0 where
   pub inside : (n : ℕ) → is_in_scope g n ≡ true → variable_of_local scope n ≡ Some (get_or slots n 0)
   pub outside : (n : ℕ) → is_in_scope g n ≡ false → variable_of_local scope n ≡ None
@@ -245,7 +247,7 @@ pub record FieldsAreStored (object : ℕ) (fields ds : List ℕ) (place : ℕ) (
 
 -- ---- statements
 
--- if there is a loop around, these are the labels of the innermost
+-- If there is a loop around, these are the labels of the innermost. Outside of loops nothing is asked, since nothing jumps there.
 abbrev pub AreLoopTargets : Whole → (in_loop : Bool) → Option Loop → List Target → Type 0
 AreLoopTargets w in_loop innermost targets =
     in_loop ≡ true

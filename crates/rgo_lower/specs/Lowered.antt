@@ -21,10 +21,11 @@ pub record LoweringPoint : Type 0 where
   pub instr : ℕ
   pub variable : ℕ
 
--- after an instruction whose value goes to the next variable, and after one without a value
+-- the point after an instruction whose value goes to the next variable
 abbrev pub after_value : LoweringPoint → LoweringPoint
 after_value p = record { instr = p.instr + 1; variable = p.variable + 1 }
 
+-- the point after any other instruction: it has no value, or writes a variable that already has its number
 abbrev pub next_point : LoweringPoint → LoweringPoint
 next_point p = record { instr = p.instr + 1; variable = p.variable }
 
@@ -43,6 +44,7 @@ pub record ActionAt (f : TacFn) (p : LoweringPoint) (action : Action) (from : Li
 abbrev pub LoweringScope : Type 0
 LoweringScope = List (ℕ × ℕ)
 
+-- the variable of the code for local n; `None` if n is not in scope
 abbrev pub variable_of_local : LoweringScope → ℕ → Option ℕ
 variable_of_local [] n = None
 variable_of_local ((m, d) ∷ scope) n = if nat_eq m n then Some d else variable_of_local scope n
@@ -54,9 +56,11 @@ parameters (suc n) = (n, n) ∷ parameters n
 
 -- ---- types and actions
 
+-- the type `bool`
 abbrev pub bool_type : «Type»
 bool_type = record { layers = []; base = base.Bool }
 
+-- the type of pointers to the struct of number n
 abbrev pub pointer_type : ℕ → «Type»
 pointer_type n = record { layers = []; base = base.Pointer n }
 
@@ -67,6 +71,7 @@ zero_action_in [] base.Bool = Bool false
 zero_action_in [] (base.Pointer n) = Nil
 zero_action_in (layer ∷ layers) b = Nil
 
+-- The action whose value is the zero of the type. It has no operands, and a declaration without a value begins with it.
 abbrev pub zero_action : «Type» → Action
 zero_action ty = zero_action_in ty.layers ty.base
 
@@ -84,6 +89,7 @@ pub record Target : Type 0 where
 
 -- `functions` are those of the program, `f` is the code of one of them
 module _ (functions : List Function) (f : TacFn) where
+  -- the type of the result of function n of the program: `Some None` if it has no result, `None` if there is no such function
   abbrev pub function_result_type : ℕ → Option (Option «Type»)
   function_result_type n = option_and_then (λ g. Some g.result_type) (slice_get functions n)
 
@@ -103,6 +109,8 @@ module _ (functions : List Function) (f : TacFn) where
     TermAt scope (tree.Apply action parts ty place) p d q =
         (ds : List ℕ) × (mid : LoweringPoint) × TermsAt scope parts p ds mid × ActionAt f mid action ds ty place
         × (d ≡ mid.variable) × (q ≡ after_value mid)
+    -- The value has a variable of its own: that of the left side may be a local variable, which the value of the right side must
+    -- not overwrite.
     TermAt scope (tree.Logic logic left right place) p d q =
         (l : ℕ) × (mid : LoweringPoint) × TermAt scope left p l mid × ActionAt f mid Copy (l ∷ []) bool_type place
         × (r : ℕ) × (last : LoweringPoint)
@@ -152,6 +160,7 @@ module _ (functions : List Function) (f : TacFn) where
     pub StmtAt : Stmt → List Target → LoweringScope → LoweringPoint → (scope2 : LoweringScope) → LoweringPoint → Type 0
     StmtAt (tree.Block all) targets scope p scope2 q =
         (inner : LoweringScope) × StmtsAt all targets scope p inner q × (scope2 ≡ scope)
+    -- No variable is in scope twice, so that which of two declarations is meant is never a question.
     StmtAt (tree.Declare n ty value place) targets scope p scope2 q =
         (d : ℕ) × (mid : LoweringPoint) × TermAt scope value p d mid × ActionAt f mid Copy (d ∷ []) ty place
         × (variable_of_local scope n ≡ None) × (scope2 ≡ (n, mid.variable) ∷ scope) × (q ≡ after_value mid)
@@ -182,6 +191,7 @@ module _ (functions : List Function) (f : TacFn) where
         (mid last : LoweringPoint) × (inner outer : LoweringScope) × TestAt scope test (last.instr + 1) place p mid
         × StmtsAt body targets scope mid inner last × OpAt f last.instr (Jump q.instr) place
         × StmtsAt other targets scope (next_point last) outer q × (scope2 ≡ scope)
+    -- The post statement has the targets around the loop, since neither `break` nor `continue` is a post statement.
     StmtAt (tree.Loop test body post place) targets scope p scope2 q =
         (mid next last : LoweringPoint) × (inner outer : LoweringScope) × ConditionAt scope test q.instr place p mid
         × StmtsAt body (record { break_to = q.instr; continue_to = next.instr } ∷ targets) scope mid inner next
@@ -224,7 +234,7 @@ pub record IsLoweredFn (functions : List Function) (source : Function) (f : TacF
       StmtsAt functions f (stmts_of source.body) [] (parameters source.params)
       (record { instr = 0; variable = source.params }) scope last
   pub closing : OpAt f last.instr (closing_op source.result_type last.instr) source.end
-  -- and nothing else
+  -- and nothing else: without these two a program would have many codes
   pub instrs : length f.body ≡ last.instr + 1
   pub variables : length f.variables ≡ last.variable
 

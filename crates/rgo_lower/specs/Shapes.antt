@@ -1,6 +1,7 @@
 -- What lowering requires of a tree, which is less than that it is well-formed: each action has as many operands as it takes, and
 -- returns a value where one is used; each number has 32 bits; each local variable that is declared exists; each `break` and
--- `continue` is in a loop.
+-- `continue` is in a loop. There are no types and no scopes in it, so a function can require it of a part of a tree without knowing
+-- what is around that part.
 use Rattle.std.specs.Prelude.{ℕ, ◌+◌, ◌^◌, Bool, true, false, ◌&&◌, nat_eq, nat_lt, length, Option, Some, None}
 use Rattle.std.specs.List.{list_all}
 use Rattle.rgo_ast.specs.declared.ops.BinaryOp.{BinaryOp}

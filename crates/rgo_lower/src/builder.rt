@@ -58,7 +58,7 @@ impl Builder {
         Ok(())
     }
 
-    /// Adds a variable of this type.
+    /// Adds a variable of this type, and returns its number.
     pub fn variable(&mut self, ty: &Type) -> Result<u32, AllocError>
         requires { builder_size (made_of self.now) < 2 ^ 32 }
         ensures { IfOk result (λ d. (d ≡ length self.old.variables.items)
@@ -69,7 +69,7 @@ impl Builder {
         Ok(number)
     }
 
-    /// Adds a list of variables.
+    /// Adds a list of variables, and returns its number.
     pub fn list(&mut self, from: Vec<u32>) -> Result<u32, AllocError>
         requires { builder_size (made_of self.now) < 2 ^ 32 }
         ensures { IfOk result (λ n. (n ≡ length self.old.lists.items)
@@ -80,7 +80,7 @@ impl Builder {
         Ok(number)
     }
 
-    /// Adds the pieces of a print.
+    /// Adds the pieces of a print, and returns their number.
     pub fn text(&mut self, pieces: &[Piece]) -> Result<u32, AllocError>
         requires { builder_size (made_of self.now) < 2 ^ 32 }
         ensures { IfOk result (λ n. (n ≡ length self.old.pieces.items)

@@ -12,7 +12,7 @@ use rgo_ast::BinaryOp;
 use rgo_tac::Instr;
 use rgo_typed::{Action, Base, Type};
 
-/// A copy between variables of a type.
+/// A copy between variables of a type. The kinds mean the same; those for integers and truth values are faster.
 pub fn copy_instr(ty: &Type, to: u32, from: u32) -> Instr
     ensures { InstrEncodes result (Do (Some to) Copy (from ∷ [])) }
 {

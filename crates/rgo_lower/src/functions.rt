@@ -123,6 +123,7 @@ pub fn lower_function(alloc: Global, function: &Function) -> Result<TacFn, Alloc
     requires shape { stmts_fit (length function.now.locals) false (stmts_of (typed_function_of function.now).body) ≡ true }
     ensures { IfOk result (λ f. FunctionIsLowered (typed_function_of function.now) f) }
 {
+    // Every function gets an end, even after a `return`: its last instruction must not lead past the code (rule 1).
     let mut b = begin(alloc, function.locals.items(), function.params)?;
     lower_stmts(&mut b, None, &function.body)?;
     close(&mut b, &function.result_type, function.end)?;

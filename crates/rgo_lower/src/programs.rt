@@ -22,6 +22,7 @@ fn emit(alloc: Global, program: &Typed) -> Result<Tac, AllocError>
 {
     let structs = copy_structs(alloc, program.structs.items())?;
     let variables = copy_variables(alloc, program.variables.items())?;
+    // In the order of the program, since calls name functions by number.
     let mut functions = Vec::new(alloc);
     for function in &program.functions {
         functions.push(lower_function(alloc, function)?)?;

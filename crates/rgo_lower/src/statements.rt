@@ -131,7 +131,7 @@ pub fn update(b: &mut Builder, change: &Change<'_>) -> Result<(), AllocError>
     b.act(change.write, &from, change.at)
 }
 
-/// A value that is not used.
+/// A value that is not used. Its code is still needed: the term may call or trap.
 pub fn discard(b: &mut Builder, value: &Term) -> Result<(), AllocError>
     requires room { builder_size (made_of b.now) + term_size (term_of value.now) < 2 ^ 32 }
     requires shape { term_fits (term_of value.now) ≡ true }
@@ -240,6 +240,7 @@ pub fn lower_test(b: &mut Builder, test: &Term, other: u32, place: Place) -> Res
     ensures { IfOk result (λ done. TestIsEmitted (term_of test.now) other place (made_of b.old) (made_of b.new)) }
 {
     let d = lower_term(b, test)?;
+    // As after the left side of `&&`: what follows is done only if the value is true.
     b.branch_on(Logical::And, d, other, place)
 }
 

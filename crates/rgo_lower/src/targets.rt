@@ -1,4 +1,5 @@
-//! Labels are replaced by the instructions to which they lead.
+//! Labels are replaced by the instructions to which they lead. This waits until the function is complete, since a jump may lead
+//! forward.
 
 ghost use Rattle.std.specs.Prelude.{◌≡◌, IfOk, map};
 ghost use Rattle.rgo_lower.specs.Emitted.{leads_by, resolved_instr};

@@ -64,7 +64,8 @@ impl Builder {
         self.place(next)
     }
 
-    /// Stores the values in the fields of an object, one in each. Other goroutines cannot see the object yet.
+    /// Stores the values in the fields of an object, one in each. Nothing else leads to the object yet, so no goroutine sees a part
+    /// of the stores.
     fn fill(
         &mut self,
         object: u32,

@@ -95,7 +95,7 @@ less_told a b l = grind (arith, nat_tests)
 same_tells : (a b : ℕ) → nat_eq a b ≡ true → a ≡ b
 same_tells a b e = grind (arith, nat_tests)
 
--- it decides: a span that has the instruction is no earlier one
+-- it decides: a span that has the instruction is not an earlier one
 is_the_last : (spans : List Span) (k at n : ℕ) (last : Span) → AreApart spans → slice_get spans n ≡ Some last
     → SpanHasBegun k at last → ((j : ℕ) (s : Span) → slice_get spans j ≡ Some s → SpanHasBegun k at s → j ≤ n)
     → IsSpanned spans k at → Spans last k at

@@ -1,4 +1,4 @@
--- Names that a call passes for the result of its callee, and those that it gives away.
+-- Names that a call passes for the result of its callee, and those that it leaves to its callee.
 use Rattle.std.proofs.Common.{◌≡◌, ◌∙◌, ℕ, List, [], Option, Some, None, slice_get, sym, ap, subst}
 use Rattle.std.specs.Prelude.{◌↔◌}
 use Rattle.std.specs.List.{Contains}
@@ -33,7 +33,7 @@ module _ (g : CodeFn) (regions : List Class) (class : Class) (passes : List Clas
   lent_set callee names is set = subst (λ o. IsSet names (IsPassedForResult o passes)) (sym is)
       (set_with names (IsNamePassedFor regions class passes) (IsPassedForResult (Some g) passes) set passed_for_result)
 
--- there is no callee
+-- the callee does not exist
 pub none_passed : (passes : List Class) (k : ℕ) → Contains [] k ↔ IsPassedForResult None passes k
 none_passed passes k = (λ h. absurd (no_member k h), λ h. absurd (none-some NoClass h.parameter))
 

@@ -173,7 +173,7 @@ module _ (passes : List Class) (n : ℕ) (d : Class) (within : n < length passes
           h.1,
     )
 
-    -- a name that is no new one
+    -- a name that was seen before
     protects_before : (k : ℕ) → (get_or passes n d ≡ Name k → ⊥) → Protects f at (take (n + 1) passes) k
         → Protects f at (take n passes) k
     protects_before k other h = (

@@ -72,7 +72,7 @@ pub set_all : (names out : List ℕ) (i : ℕ) (P : ℕ → Type 0) → length n
 set_all names out i P past h =
     subst (λ (l : List ℕ). IsSet out (λ k. Contains l k × P k)) (take_all i names past) h
 
--- the same set, told otherwise
+-- the same set, defined otherwise
 pub set_as : (out : List ℕ) (Has Is : ℕ → Type 0) → ((k : ℕ) → Has k ↔ Is k) → IsSet out Has → IsSet out Is
 set_as out Has Is same h = record {
   ascends = h.ascends;

@@ -1,4 +1,5 @@
--- What dies on the ways of an instruction.
+-- What dies on the ways of an instruction. An instruction that leads to one only uses every name that dies after it (`dies_used`), so its
+-- names are candidates enough; for a branch the tables list them.
 use Rattle.std.proofs.Common.{◌≡◌, ◌⊎◌, ⊎_elim, inl, inr, ◌+◌, ℕ, zero, suc, List, [], ◌∷◌, Option, Some, None, slice_get, sym, ap, subst, ◌∙◌, arith}
 use Rattle.std.specs.Prelude.{◌↔◌}
 use Rattle.std.specs.List.{Contains}
@@ -124,7 +125,7 @@ single : (target n next : ℕ) → slice_get (target ∷ []) n ≡ Some next →
 single target zero next e j h = member_one target j h ∙ same_Some target next e
 single target (suc n) next e j h = absurd (none-some next e)
 
--- an instruction that is no branch leads to one at most
+-- an instruction other than a branch leads to one at most
 one_way : (op : Op) (at : ℕ) → ways_of op ≡ None → (n next : ℕ) → slice_get (leads_to op at) n ≡ Some next
     → (j : ℕ) → Contains (leads_to op at) j → j ≡ next
 one_way (Do to action from) at none n next e j h = single (at + 1) n next e j h

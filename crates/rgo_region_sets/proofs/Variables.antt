@@ -62,7 +62,7 @@ module _ (f : CodeFn) (liveness : Liveness) where
         (less_or h.0 n)),
   )
 
-  -- a variable with a name is there
+  -- a variable with a name exists
   named_inside : (slots : List Slot) (v k : ℕ) (found : Option Slot) → slice_get slots v ≡ found
       → slot_class found ≡ Name k → v < length slots
   named_inside slots v k None is named = cc

@@ -62,7 +62,8 @@ abbrev pub AreRemoved : CodeFn → (at : ℕ) → (gives : List ℕ) → Option 
 AreRemoved f at gives None names = names ≡ []
 AreRemoved f at gives (Some next) names = IsSet names (Removes f at gives next)
 
--- these have the names that may have to be removed on the way to instruction `next`, and only what is live or used
+-- These have the names that may have to be removed on the way to instruction `next`, and only what is live or used. They are few and may
+-- be too many: each is tested afterwards.
 pub record AreCandidates (f : CodeFn) (at next : ℕ) (names : List ℕ) : Type 0 where
   pub known : (k : ℕ) → Contains names k → IsLiveName f k at ⊎ UsesName f (slice_get f.body at) k
   pub used : (k : ℕ) → UsesName f (slice_get f.body at) k → Contains names k

@@ -2,7 +2,7 @@
 use Rattle.std.specs.Prelude.{◌↔◌, ℕ, Bool, true, false, List, [], ◌∷◌, ◌++◌, Contains}
 use Rattle.std.specs.List.Sorted.{IsStrictlyIncreasing}
 
--- the list has exactly these, each once, in ascending order
+-- The list has exactly these, each once, in ascending order. There is only one such list, so the checker compares lists by equality.
 pub record IsSet (names : List ℕ) (Has : ℕ → Type 0) : Type 0 where
   pub ascends : IsStrictlyIncreasing names
   pub members : (k : ℕ) → Contains names k ↔ Has k

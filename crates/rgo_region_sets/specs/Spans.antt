@@ -38,6 +38,7 @@ AreOrdered spans =
 abbrev pub IsSpanBefore : Span → Span → Type 0
 IsSpanBefore a b = (a.name ≤ b.name) × (a.name ≡ b.name → (a.from ≤ b.from) × (a.to < b.from))
 
+-- so at most one span may have an instruction, the last one that has begun: a binary search finds it
 abbrev pub AreApart : List Span → Type 0
 AreApart spans =
     (i j : ℕ) (a b : Span) → i < j → slice_get spans i ≡ Some a → slice_get spans j ≡ Some b → IsSpanBefore a b

@@ -1,4 +1,4 @@
-//! The branches of a function.
+//! The branches of a function. They alone have two ways, on which different names may die.
 
 ghost use Rattle.std.specs.Prelude.{◌≡◌, ◌<◌, ◌+◌, ◌^◌, length, vec_len, OnOk, IfOk};
 ghost use Rattle.rgo_tac.specs.Ops.{operation_of};

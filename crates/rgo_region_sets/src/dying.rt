@@ -11,7 +11,7 @@ use crate::spans::{Span, is_spanned};
 use rgo_graphs::{add_row, empty_rows};
 use std::alloc::{AllocError, Global};
 
-/// Where the branches that are in a span begin and end.
+/// Where the branches that are in a span begin and end. Both ends are found by search, so spans without branches cost little.
 fn branches_in(points: &[u32], span: Span) -> (usize, usize)
     requires points { IsAscending points.now }
     ensures { AreInSpan points.now span result.0 result.1 }

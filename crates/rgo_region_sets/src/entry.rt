@@ -15,7 +15,7 @@ use crate::table::LiveNames;
 use rgo_code::CodeFn;
 use std::alloc::{AllocError, Global};
 
-/// The own names of parameters that the first instruction does not hold.
+/// The own names of parameters that the first instruction does not hold: nothing in the function would ever remove them.
 ///
 /// # Errors
 ///
@@ -39,7 +39,7 @@ pub fn entry_removals(
     Ok(set_of(names))
 }
 
-/// Whether a span has the first instruction, and its name is own.
+/// Whether a span has the first instruction, and its name is own. A span that has it begins there: no instruction is before.
 fn is_held(f: &CodeFn<'_>, span: Span) -> bool
     ensures { Decides result ((span.from ≡ 0) × IsOwn f.now span.name) }
 {

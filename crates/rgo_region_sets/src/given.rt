@@ -1,4 +1,4 @@
-//! The names that a call leaves to its callee to remove.
+//! The names that a call leaves to its callee to remove: those of which the caller and its callers need nothing afterwards.
 
 ghost use Rattle.std.specs.Prelude.{Decides, ◌≡◌, Some, IfOk, slice_get};
 ghost use Rattle.std.specs.Option.{option_map};
@@ -41,7 +41,7 @@ fn is_at(classes: &[Class], at: usize, class: Class) -> bool
     }
 }
 
-/// The names that are passed for the class of the callee's result.
+/// The names that are passed for the class of the callee's result. The callee may not remove them, as it returns what is in them.
 fn lent(
     alloc: Global,
     callee: Option<&CodeFn<'_>>,

@@ -13,7 +13,8 @@ use rgo_code::CodeFn;
 use rgo_flow::{Liveness, Range, live};
 use std::alloc::{AllocError, Global};
 
-/// Whether a span begins no later than right after the end of another one of its name.
+/// Whether a span begins no later than right after the end of another one of its name. Neighbours become one span, too: there are then
+/// fewer of them, and they mean the same.
 fn meets(last: Span, next: Span) -> bool
     ensures { SpansMeet result last next }
 {
@@ -95,6 +96,7 @@ fn all_spans(alloc: Global, f: &CodeFn<'_>) -> Result<Vec<Span>, AllocError>
     Ok(spans)
 }
 
+/// By name and then by first instruction, so that what can be merged is next to each other.
 fn ordered(mut spans: Vec<Span>) -> Vec<Span>
     ensures ordered { AreOrdered result.items }
     ensures same { (k at : ℕ) → IsSpanned result.items k at ↔ IsSpanned spans.items k at }

@@ -21,7 +21,7 @@ pub(crate) fn name_of(class: Class) -> Option<u32>
     }
 }
 
-/// Whether a name is not the class of the result.
+/// Whether a name is not the class of the result, whose region belongs to the caller.
 pub(crate) fn is_own(f: &CodeFn<'_>, name: u32) -> bool
     ensures { Decides result (IsOwn f.now name) }
 {

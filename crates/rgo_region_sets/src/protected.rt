@@ -12,7 +12,8 @@ use rgo_code::{Class, CodeFn};
 use std::alloc::{AllocError, Global};
 use std::collections::BTreeSet;
 
-/// Whether a name that is passed for the first time, or again, is to be protected.
+/// Whether a name that is passed for the first time, or again, is to be protected. If it is passed again, the callee has two names for
+/// one region, and may use it by one name after the other has died.
 fn is_needed(f: &CodeFn<'_>, live: &LiveNames, at: usize, first: bool, name: u32) -> bool
     requires few { at < 2 ^ 63 }
     requires live { AreLiveNames live.now f.now }

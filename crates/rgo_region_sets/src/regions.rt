@@ -55,7 +55,8 @@ fn distinct_names(alloc: Global, classes: &[Class]) -> Result<Vec<Class>, AllocE
     Ok(distinct)
 }
 
-/// The names of the parameters' classes, then that of the result, each once.
+/// The names of the parameters' classes, then that of the result, each once. Calls pass regions in this order, which follows from the
+/// classes and is written nowhere.
 ///
 /// # Errors
 ///

@@ -19,7 +19,8 @@ fn begun(spans: &[Span], name: u32, at: usize) -> usize
     spans.partition_point(|s| s.name < name || s.name == name && s.from as usize <= at)
 }
 
-/// Whether one of the spans is of this name and has this instruction.
+/// Whether one of the spans is of this name and has this instruction. Spans of one name do not overlap, so only the last one that has
+/// begun can have it.
 pub(crate) fn is_spanned(spans: &[Span], name: u32, at: usize) -> bool
     requires apart { AreApart spans.now }
     ensures { Decides result (IsSpanned spans.now name at) }

@@ -64,6 +64,7 @@ pub(crate) fn used_names(alloc: Global, f: &CodeFn<'_>, at: usize) -> Result<Vec
     let mut names = Vec::new(alloc);
     match f.tac().op(at) {
         Some(op) => {
+            // A variable may be read and written, or two may have one class: hence the set.
             add_used(&mut names, f, op)?;
             Ok(set_of(names))
         }

@@ -1,4 +1,5 @@
--- What is carried to callers is joined in every family of summaries that names at least as much.
+-- What is carried to callers is joined in every family of summaries that names at least as much: a call in that family joins, by the
+-- summary of its callee, what is carried here node by node.
 use Rattle.std.proofs.Common.{◌≡◌, ⊎_elim, ◌↔◌, ℕ, ◌+◌, List, Option, Some, None, slice_get, refl, sym, ◌∙◌, subst}
 use Rattle.std.proofs.lemmas.Option.{same_Some}
 use Rattle.rgo_tac.specs.declared.regions.Member.{Member}
@@ -49,7 +50,7 @@ module _ (code : Tac) (sums : List Summary) (Related : ℕ → ℕ → ℕ → T
   ReachesAt f a i None = ⊥
   ReachesAt f a i (Some c) = Reaches f a i c.0 c.1
 
-  -- a member is in one class with what a node stands for
+  -- a member is in one class with what a node represents
   abbrev pub Stands : TacFn → Member → Option NodeKind → Type 0
   Stands f a None = ⊥
   Stands f a (Some (Own b)) = InOneClass sums f a b
@@ -168,7 +169,7 @@ module _ (code : Tac) (sums : List Summary) (Related : ℕ → ℕ → ℕ → T
       abbrev pub MeansIn : ℕ → ℕ → ℕ → Type 0
       MeansIn n x y = (f : TacFn) → slice_get code.functions n ≡ Some f → Means f (kinds n) x y
 
-      -- two members that a node each stands for
+      -- two members, each represented by a node
       pub means_joins : (n x y : ℕ) (f : TacFn) (a b : Member) → slice_get code.functions n ≡ Some f
           → kinds n x ≡ Some (Own a) → kinds n y ≡ Some (Own b) → MeansIn n x y → InOneClass sums f a b
       means_joins n x y f a b k p q m =

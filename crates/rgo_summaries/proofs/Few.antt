@@ -1,4 +1,4 @@
--- The numbers of nodes are those of a machine word.
+-- The numbers of nodes fit in a machine word.
 use Rattle.std.proofs.Common.{◌≡◌, ◌<◌, ◌^◌, ℕ, List, Option, Some, None, slice_get, refl, arith}
 use Rattle.rgo_summaries.specs.declared.nodes.Nodes.{Nodes}
 use Rattle.rgo_summaries.specs.Joining.{IsNodes}

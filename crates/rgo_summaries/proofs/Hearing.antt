@@ -1,4 +1,5 @@
--- How events are carried to callers, until none is left.
+-- How events are carried to callers, until none is left. The log is gone through by number while it grows; what is carried so far is what
+-- the events before that number ask for (`Underway`).
 use Rattle.std.proofs.Common.{◌≡◌, ◌⊎◌, inl, inr, ⊎_elim, ℕ, ◌<◌, ◌≤◌, ◌+◌, List, [], ◌∷◌, ◌++◌, Some, Vec, length, take, get_or, slice_get, refl, sym, ap, ◌∙◌, subst, arith, length-append}
 use Rattle.std.specs.Global.{Global}
 use Rattle.std.specs.List.{Contains}

@@ -468,7 +468,7 @@ label_has_row n x is l = (
   label_in_rows n.labels.items n.rows.items x is.rows l,
 )
 
--- ---- what joining two nodes gives
+-- ---- what joining two nodes makes
 
 module _ (old new : Nodes) (a b : ℕ) (o : IsNodes old) (la : a < size_of old) (lb : b < size_of old) (from to : ℕ)
     (from_is : from ≡ label_at old a) (to_is : to ≡ label_at old b) (apart : from ≢ to) (news : Option (ℕ × ℕ))

@@ -1,4 +1,5 @@
--- Summaries that name what spreads to callers are the least family.
+-- Summaries that name what spreads to callers are the least family. They are a family, since what spreads is closed under calls; and every
+-- family joins as much, by induction on what spreads (`Carried`).
 use Rattle.std.proofs.Common.{◌≡◌, ⊎_elim, ℕ, zero, suc, ◌+◌, List, length, Option, Some, None, slice_get, refl, subst, arith}
 use Rattle.std.proofs.lemmas.Option.{slice_get_within}
 use Rattle.rgo_tac.specs.declared.regions.Member.{Member}

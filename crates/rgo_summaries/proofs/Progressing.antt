@@ -1,4 +1,5 @@
--- A join in one function, with the log of what its callers are to hear of.
+-- A join in one function, with the log of what its callers are to hear of. The hard case is a join of two classes that callers see: the
+-- event links one node of each, and the log already links these to the rest of their classes.
 use Rattle.std.proofs.Common.{◌≡◌, ◌≢◌, ◌⊎◌, inl, inr, ⊎_elim, ℕ, zero, suc, ◌<◌, ◌≤◌, ◌+◌, List, [], ◌∷◌, ◌++◌, Option, Some, None, length, set, get_or, slice_get, refl, sym, ap, ◌∙◌, subst, arith, length-append}
 use Rattle.std.specs.Prelude.{sum_by}
 use Rattle.std.specs.List.{Contains}

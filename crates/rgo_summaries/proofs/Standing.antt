@@ -1,4 +1,4 @@
--- What stands for a class of a callee, by the numbers of its members, and what calls join.
+-- What corresponds to a class of a callee, by the numbers of its members, and what calls join.
 use Rattle.std.proofs.Common.{◌≡◌, ◌≢◌, ◌⊎◌, inl, inr, ⊎_elim, ℕ, zero, suc, Bool, true, false, ◌&&◌, List, Option, Some, None, slice_get, refl, sym, ap, ◌∙◌, subst}
 use Rattle.std.specs.Prelude.{if◌then◌else◌}
 use Rattle.std.specs.Option.{option_map}

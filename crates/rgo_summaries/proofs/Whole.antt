@@ -1,4 +1,4 @@
--- What was begun and spread, and was named, is the least family.
+-- What was begun and spread, and was named, is the least family: the parts of the other files, put together for all functions.
 use Rattle.std.proofs.Common.{◌≡◌, inl, inr, ⊎_elim, ◌↔◌, ℕ, ◌<◌, ◌≤◌, ◌+◌, List, Option, Some, None, Vec, length, slice_get, refl, sym, ap, ◌∙◌, subst, arith}
 use Rattle.std.specs.Global.{Global}
 use Rattle.std.proofs.lemmas.Option.{slice_get_within}
@@ -31,7 +31,7 @@ use Rattle.rgo_summaries.proofs.Naming.{ByNumber, names_along, numbers_named}
 use Rattle.rgo_summaries.proofs.Outer.{some_get}
 use Rattle.rgo_summaries.proofs.Standing.{call_here}
 
--- what the nodes of a function stand for
+-- what the nodes of a function represent
 abbrev pub kind_at : Tac → Option TacFn → ℕ → Option NodeKind
 kind_at code None x = None
 kind_at code (Some f) x = slice_get (kinds_of code f) x

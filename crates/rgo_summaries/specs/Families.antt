@@ -24,7 +24,8 @@ pub record JoinsNoMore (s t : Summary) : Type 0 where
       → slice_get (outer_classes s) i ≡ Some c → slice_get (outer_classes s) j ≡ Some c
       → slice_get (outer_classes t) i ≡ slice_get (outer_classes t) j
 
--- a family that joins no more than any other family
+-- A family that joins no more than any other family. In recursive functions a larger one would agree with itself, too, but whatever it
+-- joins without need stays in memory longer.
 pub record IsLeastFamily (code : Tac) (family : List Summary) : Type 0 where
   pub closed : IsFamily code family
   pub least : (other : List Summary) → IsFamily code other

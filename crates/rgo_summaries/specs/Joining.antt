@@ -23,7 +23,7 @@ seen_at seen l = slice_index_or seen l None
 abbrev pub seen_if : Bool → ℕ → Option ℕ
 seen_if is_seen n = if is_seen then Some n else None
 
--- each label has its nodes and, where there is one, a node that callers see
+-- Each label has its nodes and, where there is one, a node that callers see. By `has`, no class that callers see goes unnoticed.
 pub record IsNodes (n : Nodes) : Type 0 where
   pub few : size_of n < 2 ^ 64
   pub rows : AreRows n.labels.items (member_rows n.rows.items)
@@ -90,7 +90,8 @@ some_count (Some x) = 1
 abbrev pub seen_count : Nodes → ℕ
 seen_count n = sum_by some_count n.seen.items
 
--- two nodes are joined, no more than follows, and `news` reports a join that callers see
+-- Two nodes are joined, no more than follows, and `news` reports a join that callers see. Each report leaves one label fewer with a node
+-- that callers see (`counted`): this is why the analysis ends.
 pub record JoinsNodes (old new : Nodes) (one other : ℕ) (news : Option (ℕ × ℕ)) : Type 0 where
   pub size : size_of new ≡ size_of old
   pub width : new.width ≡ old.width

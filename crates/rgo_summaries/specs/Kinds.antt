@@ -1,4 +1,5 @@
--- The nodes of a function in order: its members, then those of its calls.
+-- The nodes of a function in order: its members, then those of its calls. The members that callers see come first, so a number alone
+-- says whether callers see a node.
 use Rattle.std.specs.Prelude.{ℕ, zero, suc, ◌+◌, min, List, [], ◌∷◌, ◌++◌, Option, Some, None, length}
 use Rattle.rgo_tac.specs.Code.{TacFn, Tac}
 use Rattle.rgo_summaries.specs.Calls.{CallParts, call_and_callee_at, member}

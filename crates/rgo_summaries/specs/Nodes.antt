@@ -40,6 +40,6 @@ pub record JoinsPassed (code : Tac) (f : TacFn) (kinds : ℕ → Option NodeKind
   pub x_is : kinds x ≡ Some (Callee at number)
   pub y_is : kinds y ≡ Some (Own actual)
 
--- what is joined before anything is known of the callees
+-- what is joined before anything is known of the callees; what these join is carried over later, by the nodes of the calls
 abbrev pub JoinsAtFirst : Tac → TacFn → (ℕ → Option NodeKind) → ℕ → ℕ → Type 0
 JoinsAtFirst code f kinds x y = JoinsOwn f kinds x y ⊎ JoinsPassed code f kinds x y

@@ -45,7 +45,8 @@ Inside nodes f x = x < width_in nodes f
 abbrev pub Logged : List Event → ℕ → ℕ → ℕ → Type 0
 Logged log f x y = Contains log (record { function = f; one = x; other = y })
 
--- The log leads from each node that callers see to each that is joined to it.
+-- The log leads from each node that callers see to each that is joined to it. A chain of events is enough, so the log has one event for
+-- each two classes that became one, and not one for each two nodes.
 pub record IsProgress (p : Progress) : Type 0 where
   pub are : (f : ℕ) (n : Nodes) → slice_get p.nodes.items f ≡ Some n → IsNodes n
   pub logged : (f x y : ℕ) → Inside p.nodes.items f x → Inside p.nodes.items f y → SameIn p.nodes.items f x y
@@ -109,7 +110,7 @@ abbrev pub HasRoom : List Nodes → (width : ℕ) → List Site → Type 0
 HasRoom nodes width sites = (s : Site) → Contains sites s → (s.caller < length nodes)
     × (s.base + width ≤ size_in nodes s.caller)
 
--- the joins are carried to callers until none is left
+-- The joins are carried to callers until none is left: no join is without reason (`sound`), and none is missing (`whole`).
 pub record IsSpread (old new : List Nodes) (sites : List (Vec Site Global)) : Type 0 where
   pub len : length new ≡ length old
   pub are : (f : ℕ) (n : Nodes) → slice_get new f ≡ Some n → IsNodes n

@@ -1,5 +1,5 @@
-//! The nodes of all functions, with the joins of each function's own instructions. Of its callees nothing is known yet; a call
-//! has nodes for them, which later joins reach by the list of calls.
+//! The nodes of all functions, with the joins of each function's own instructions. Nothing is known of its callees yet: a
+//! call has nodes for them, which later joins reach by the list of calls.
 
 ghost use Rattle.std.specs.Prelude.{◌≡◌, ◌<◌, ◌≤◌, ◌+◌, ℕ, [], Some, length, slice_get, vec_len, Contains, IfOk, OnOk};
 ghost use Rattle.rgo_summaries.specs.declared.progress.Site.{Site as AnySite};
@@ -69,7 +69,8 @@ fn grow_in(
     Ok(base)
 }
 
-/// Joins the node that a call has for a member of the callee to the member that is passed for it.
+/// Joins the node that a call has for a member of the callee to the member that is passed for it. Both have to be pointer-like: other
+/// values lead into no region.
 fn pass(
     alloc: Global,
     progress: &mut Progress,

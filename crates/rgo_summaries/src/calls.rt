@@ -109,7 +109,7 @@ pub(crate) fn is_pointer_like(function: &TacFn, number: usize) -> bool
     }
 }
 
-/// Callers see the members with smaller numbers than this.
+/// Callers see the members with smaller numbers than this: the package variables, the result and the parameters come first.
 pub(crate) fn width_of(function: &TacFn) -> usize
     ensures { result ≡ kinds.width_of function.now }
 {

@@ -30,7 +30,7 @@ fn summary(alloc: Global, function: &TacFn, nodes: Nodes) -> Result<Summary, All
     })
 }
 
-/// The summaries of all functions. It takes the nodes out of `nodes`.
+/// The summaries of all functions. It takes the nodes out of `nodes`, which nothing needs afterwards, so that no labels are copied.
 pub(crate) fn summaries_of(
     alloc: Global,
     functions: &[TacFn],

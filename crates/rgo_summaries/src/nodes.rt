@@ -1,4 +1,5 @@
-//! The nodes of a function, and which of them are joined.
+//! The nodes of a function, and which of them are joined. A label has an entry in `seen` exactly if one of its nodes is seen by callers:
+//! so a join that callers have to hear of is one of two labels that both have an entry.
 
 ghost use Rattle.std.specs.Prelude.{◌≡◌, ◌≢◌, ◌<◌, ◌∷◌, [], true, length, IfOk, OnOk};
 ghost use Rattle.rgo_summaries.specs.Joining as spec;
@@ -13,7 +14,7 @@ pub(crate) struct Nodes {
     pub labels: Vec<usize>,
     /// The nodes of each label.
     pub rows: Vec<Vec<usize>>,
-    /// For each label, a node that callers see, if there is one.
+    /// For each label, a node that callers see, if there is one. One is enough: it is joined to the others.
     pub seen: Vec<Option<usize>>,
     /// Callers see the nodes with smaller numbers.
     pub width: usize,
@@ -150,6 +151,7 @@ pub(crate) fn join(
     if from == to {
         return Ok(None);
     }
+    // The smaller class is relabelled, as in `rgo_classes`: of n nodes, none more often than log n times.
     if nodes.rows[from].len() <= nodes.rows[to].len() {
         go_over(alloc, nodes, from, to)
     } else {

@@ -22,7 +22,7 @@ pub(crate) struct Site {
     pub base: usize,
 }
 
-/// What is joined so far. The log only grows.
+/// What is joined so far. The log only grows, so `spread` needs a number only to know which events it has carried.
 #[derive(Drop)]
 pub(crate) struct Progress {
     pub nodes: Vec<Nodes>,

@@ -1,4 +1,4 @@
--- A rule at a line, by what it says of what is there.
+-- A rule at a line, by what it says of the item of that line.
 use Rattle.std.proofs.Common.{◌≡◌, ◌≢◌, ℕ, ◌<◌, ◌≤◌, Bool, true, false, not, ◌&&◌, Option, Some, None, slice_get, nat_lt, nat_eq, if◌then◌else◌, refl, sym, ap, ◌∙◌, subst, arith}
 use Rattle.std.proofs.lemmas.Bool.{false≢true}
 use Rattle.std.proofs.lemmas.Option.{same_Some}
@@ -64,7 +64,7 @@ module _ (code : Code) (r : Rule) (b : Bool) where
 
 -- ---- the least rule that is broken at a line
 
--- both ways, from a test for either answer
+-- both ways, from a test for either case
 both_ways : {P Q : Type 0} → ((b : Bool) → Decides b P → Decides b Q) → (P → Q) × ((P → ⊥) → Q → ⊥)
 both_ways {P} {Q} h = (λ p. (h true (λ t. p, λ q. refl)).0 refl, λ n q. false≢true ((h false (no n)).1 q))
   where

@@ -37,7 +37,7 @@ apart a (x ∷ xs) h =
     by false e n = e
 
 module _ (f : TacFn) (v : ℕ) where
-  -- ---- paths of so many steps at most
+  -- ---- paths of at most n steps
 
   reads_or_not : (at : ℕ) → Decided (ReadsVariable f at v)
   reads_or_not at = contains_or_not same_number (read_by (slice_get f.body at)) v

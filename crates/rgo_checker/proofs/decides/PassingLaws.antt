@@ -1,4 +1,5 @@
--- The tests on what is passed decide the rules on calls.
+-- The tests on what is passed decide the rules on calls. A rule speaks of all places of a name among the region parameters; there is only
+-- one, so a look into the map is enough.
 use Rattle.std.proofs.Common.{◌≡◌, ℕ, zero, suc, ◌+◌, ◌<◌, ◌≤◌, Bool, true, false, ◌&&◌, ◌||◌, not, List, [], ◌∷◌, ◌++◌, length, Option, Some, None, is_some, slice_get, nat_eq, refl, sym, ap, ◌∙◌, subst, arith, ◌⊎◌, inl, inr, if◌then◌else◌}
 use Rattle.std.proofs.lemmas.Bool.{cases_lt, false≢true}
 use Rattle.std.proofs.lemmas.Bool.Decides.{Decides-and, Decides-like}
@@ -105,7 +106,7 @@ module _ {S : Type 0} (classes passes : List Class) (places : HashMap ℕ ℕ S)
           (λ q r there. ap (slice_get passes) (distinct k r p there here) ∙ q) (λ h. h p here)
           (class_decided (slice_get passes p) argument)
 
--- ---- arguments, as far as a loop has come
+-- ---- arguments, up to where a loop is
 
 pub more_pass : (P : ℕ → ℕ → Type 0) (from : List ℕ) (i : ℕ) (v : ℕ)
     → ((j w : ℕ) → j < i → slice_get from j ≡ Some w → P j w) → slice_get from i ≡ Some v → P i v

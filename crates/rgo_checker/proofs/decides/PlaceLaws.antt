@@ -10,7 +10,7 @@ use Rattle.rgo_checker.specs.ClassTests.{ArePlaces}
 use Rattle.rgo_checker.specs.Parameters.{ArePlacesBelow, place_with_class}
 use Rattle.rgo_checker.proofs.Deciding.{decides_same}
 
--- what a map says of name k, as far as the loop has come
+-- what a map says of name k after n items of the loop
 abbrev At : List Class → (count k : ℕ) → Option ℕ → Type 0
 At classes count k o =
     MatchOption o ((p : ℕ) → p < count → slice_get classes p ≡ Some (Name k) → ⊥)

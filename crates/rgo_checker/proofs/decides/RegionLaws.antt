@@ -1,4 +1,5 @@
--- The lists that the rules on creations, protections and removals ask for decide these rules.
+-- The lists that the rules on creations, protections and removals ask for decide these rules: ascending lists are equal exactly if they
+-- have the same members (`set_decided`).
 use Rattle.std.proofs.Common.{◌≡◌, ◌↔◌, ℕ, zero, suc, ◌+◌, ◌<◌, ◌≤◌, Bool, true, false, ◌&&◌, ◌||◌, List, [], ◌∷◌, ◌++◌, length, Option, Some, None, slice_get, bytes_eq, nat_eq, refl, sym, ap, ◌∙◌, subst, arith, ◌⊎◌, inl, inr, Contains}
 use Rattle.std.proofs.lemmas.Bool.{false≢true}
 use Rattle.std.proofs.lemmas.Bool.Decides.{Decides-and, Decides-like}

@@ -1,4 +1,4 @@
--- There is one first broken rule, and one line.
+-- There is one first broken rule, and one line: of two, neither can be less than the other.
 use Rattle.std.proofs.Common.{◌≡◌, ℕ, ◌<◌, ◌≤◌, refl, sym, ap, ◌∙◌, subst, arith, ◌⊎◌, inl, inr, nat_eq, if◌then◌else◌}
 use Rattle.std.proofs.lemmas.Bool.{cases_lt}
 use Rattle.rgo_code.specs.declared.rules.Rule.{Rule}

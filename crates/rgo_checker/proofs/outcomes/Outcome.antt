@@ -1,4 +1,4 @@
--- What the two walks find out.
+-- What the two walks find out. The second walk begins after the package variables: no rule after the first is about the lines before.
 use Rattle.std.proofs.Common.{◌≡◌, ℕ, ◌+◌, ◌<◌, ◌≤◌, List, [], ◌∷◌, ◌++◌, length, None, sym, ◌∙◌, subst, refl, arith, ◌⊎◌, inl, inr, length-append, append_assoc, MatchOption}
 use Rattle.std.proofs.lemmas.Bool.{cases_lt}
 use Rattle.std.proofs.lemmas.Option.{none-some}

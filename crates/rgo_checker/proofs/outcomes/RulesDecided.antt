@@ -1,4 +1,5 @@
--- Of each rule it is known whether it is kept at a line.
+-- Whether a rule is kept at a line is decided, for each rule and line: what a rule quantifies over is in a list, or bounded by one. No code
+-- runs this; the logic has no excluded middle, and `SomeOutcome` needs it.
 use Rattle.std.proofs.Common.{◌≡◌, ◌≢◌, ◌↔◌, ◌⊎◌, inl, inr, ℕ, zero, suc, ◌+◌, ◌<◌, List, [], ◌∷◌, ◌++◌, length, map, Option, Some, None, slice_get, refl, sym, ap, ◌∙◌, subst, codes, Contains}
 use Rattle.std.proofs.lemmas.List.Elements.{Contains-append_left, Contains-append_right}
 use Rattle.std.proofs.lemmas.Option.{same_Some, none-some, slice_get-map}

@@ -1,4 +1,5 @@
--- Code keeps all rules, or has a first broken rule and line.
+-- Code keeps all rules, or has a first broken rule and line. By `RulesDecided` there is a first rule in the order of numbers, and then a
+-- first line, at which it is broken.
 use Rattle.std.proofs.Common.{◌≡◌, ◌≢◌, ◌⊎◌, inl, inr, ℕ, zero, suc, ◌+◌, ◌<◌, ◌≤◌, List, [], ◌∷◌, Some, slice_get, refl, sym, ap, ◌∙◌, subst, arith}
 use Rattle.std.proofs.lemmas.Bool.{cases_lt}
 use Rattle.std.proofs.lemmas.Option.{same_Some, none-some}

@@ -1,4 +1,5 @@
--- Walks over lines, one after the other, and what is known at their end.
+-- Walks over lines, one after the other, and what is known at their end. By induction over the lines: the limit only falls, and each time
+-- it falls the line is noted, so at the end it is the least broken rule with its first line.
 use Rattle.std.proofs.Common.{◌≡◌, ℕ, ◌+◌, ◌-◌, ◌^◌, min, ◌<◌, ◌≤◌, List, [], ◌∷◌, ◌++◌, length, Option, Some, None, slice_get, sym, ◌∙◌, subst, refl, arith, ◌⊎◌, inl, inr, length-append, append_assoc, MatchOption}
 use Rattle.std.proofs.lemmas.Bool.{cases_lt}
 use Rattle.std.proofs.lemmas.List.{append-nil}

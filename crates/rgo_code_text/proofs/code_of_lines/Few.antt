@@ -1,4 +1,4 @@
--- Why a text that is not too large has few lines, names, variables and instructions.
+-- Why a text that is not too large has few lines, names, variables and instructions: each of them takes a byte of the text at least.
 use Rattle.std.proofs.Common.{◌≡◌, ℕ, suc, ◌+◌, ◌<◌, ◌≤◌, ◌^◌, Bool, true, false, not, List, [], ◌∷◌, ◌++◌, length, drop, Option, Some, None, if◌then◌else◌, bytes_eq, ap, arith, length-append}
 use Rattle.std.specs.List.{flat_map, join_with_byte}
 use Rattle.std.proofs.lemmas.List.{length-map, length_push}
@@ -196,7 +196,7 @@ body_long : (ls : List (List ℕ)) (ps : List (List Piece)) (is : List CodeInstr
 body_long ls ps [] places = omega arith
 body_long ls ps (i ∷ is) places = omega (arith, body_long ls ps is (drop 1 places))
 
--- its current function has at most so many more variables, and instructions
+-- its current function has at most that many variables and instructions more
 record GrowsBy (b c : Building) (n : ℕ) : Type 0 where
   pub variables : length c.current.variables ≤ length b.current.variables + n
   pub body : length c.current.body ≤ length b.current.body + n

@@ -1,4 +1,4 @@
--- Code that is made of the lines of a text has this text.
+-- Code that is made of the lines of a text has this text: each name gets a number at which the tables have this name.
 use Rattle.std.proofs.Common.{◌≡◌, ◌≢◌, ℕ, List, [], ◌∷◌, ◌++◌, map, length, drop, Option, Some, None, IfSome, refl, sym, ap, subst, ◌∙◌, codes, decimal}
 use Rattle.std.specs.List.{All, flat_map}
 use Rattle.std.specs.Option.{option_map}

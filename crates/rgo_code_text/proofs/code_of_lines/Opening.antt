@@ -1,4 +1,5 @@
--- Functions that are not complete yet, with one more variable or instruction.
+-- Functions that are not complete yet, with one more variable or instruction. Lists added at the end leave the others as they are, since
+-- earlier instructions refer to lower numbers (`below_more`).
 use Rattle.std.proofs.Common.{◌≡◌, ℕ, ◌≤◌, List, [], ◌∷◌, ◌++◌, length, get_or, drop, refl, sym, ap, ◌∙◌, arith}
 use Rattle.std.specs.Prelude.{Option, Some, None}
 use Rattle.std.specs.Option.{option_map}

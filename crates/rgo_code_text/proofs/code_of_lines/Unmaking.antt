@@ -1,4 +1,5 @@
--- The text of code has lines that make the code again.
+-- The text of code has lines that make the code again. The hard part is the numbers: they are replaced by names, and the names are numbered
+-- again. Each gets its own number back, since code that is written uses the first number of each name and lists the others by first use.
 use Rattle.std.proofs.Common.{◌≡◌, ℕ, ◌<◌, List, [], ◌∷◌, ◌++◌, map, length, drop, Option, Some, None, IfSome, refl, sym, ap, subst, ◌∙◌}
 use Rattle.std.specs.List.{All, flat_map}
 use Rattle.std.specs.Option.{option_map}

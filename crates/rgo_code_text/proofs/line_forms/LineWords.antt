@@ -101,7 +101,7 @@ decimal_below k small =
     (λ n digits l f. All-append (λ b. b ≤ 57) digits ((48 + n % 10) ∷ []) f (one_below (48 + n % 10) (omega arith)))
     k small
 
--- a number is no word that begins with a letter
+-- a number is not a word that begins with a letter
 pub number_differs : (i b : ℕ) (word : List ℕ) → IsSmallNumber i → 57 < b → decimal i ≢ b ∷ word
 number_differs i b word s l e =
     let below = subst Below e (decimal_below i (omega (arith, s))) in

@@ -1,4 +1,4 @@
--- Lines that are no instructions are read back, and nothing else is read.
+-- Lines other than instructions are read back, and nothing else is read.
 use Rattle.std.proofs.Common.{◌≡◌, ℕ, suc, ◌+◌, ◌<◌, ◌≤◌, ◌==◌, ◌&&◌, nat_le, Bool, true, false, true≢false, List, [], ◌∷◌, ◌++◌, map, length, Option, Some, None, IfSome, if◌then◌else◌, refl, sym, ap, subst, ◌∙◌, arith, codes, decimal}
 use Rattle.std.specs.List.{list_all, join_with_byte, before_first}
 use Rattle.std.specs.Option.{option_map}

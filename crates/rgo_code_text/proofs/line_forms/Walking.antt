@@ -80,7 +80,7 @@ line_end : (bytes : List ℕ) → position_or_len is_newline bytes ≡ length by
 line_end bytes e =
     subst IsLine (take_all (length bytes) bytes (omega arith)) (line_front bytes (length bytes) (sym e) (omega arith))
 
--- ---- where reading stops, or goes on
+-- ---- where reading stops, or continues
 
 module _ (text : List ℕ) (items : List Item) (place : Place) (at n line : ℕ) (rest : List ℕ) (whole : rest ≡ drop at text)
     (first : n ≡ position_or_len is_newline rest) (within : n ≤ length rest) (inside : at ≤ length text)

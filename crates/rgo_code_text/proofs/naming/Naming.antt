@@ -1,4 +1,4 @@
--- Words do not change where names get their numbers.
+-- Once a name has its number, the words are those of the name again: numbering does not change how a line is printed.
 use Rattle.std.proofs.Common.{◌≡◌, ℕ, List, [], ◌∷◌, ◌++◌, Option, Some, None, IfSome, refl, sym, ap, ◌∙◌, codes}
 use Rattle.std.specs.List.{All, flat_map}
 use Rattle.std.specs.Option.{option_map}

@@ -1,4 +1,5 @@
--- Actions are read back from their words.
+-- Actions are read back from their words. `ActionsIs` is the other direction. An action whose word no reader knows fails here, since the
+-- compiler cannot find a string that is missing.
 use Rattle.std.proofs.Common.{◌≡◌, ℕ, true, false, List, [], ◌∷◌, Option, Some, None, if◌then◌else◌, refl, sym, ap, ◌∙◌, subst, decimal, codes}
 use Rattle.std.specs.Fmt.{signed_decimal}
 use Rattle.std.specs.Str.{bytes_eq}
@@ -24,7 +25,7 @@ use Rattle.rgo_code_words.proofs.WordsBack.{operator_back}
 one_back : (word : List ℕ) (a : ℕ) → IsSmallNumber a → read_action (word ∷ variable_word a ∷ []) ≡ with_one word a
 one_back word a s = ap (λ o. on_some o (with_one word)) (number_back a s)
 
--- the word is none of those whose last word is no variable
+-- the word is not one of those whose last word is not a variable
 abbrev IsPlain : List ℕ → Type 0
 IsPlain word =
     (bytes_eq word (codes "set") ≡ false) × (bytes_eq word (codes "int") ≡ false) × (bytes_eq word (codes "bool") ≡ false)

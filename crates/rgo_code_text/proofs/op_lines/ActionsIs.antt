@@ -1,4 +1,4 @@
--- What is read of the words of an action: nothing else has these words.
+-- What is read of the words of an action has these words: nothing else is read. `ActionsBack` is the other direction.
 use Rattle.std.proofs.Common.{◌≡◌, ◌≢◌, ℕ, ◌==◌, List, [], ◌∷◌, length, Option, Some, None, refl, sym, ap, ◌∙◌, subst, decimal, codes}
 use Rattle.std.proofs.lemmas.Bool.Decides.{Decides-eqb}
 use Rattle.std.proofs.lemmas.List.Elements.{All-nil, All-cons}

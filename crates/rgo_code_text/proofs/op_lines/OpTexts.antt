@@ -1,4 +1,5 @@
--- The text of an operation is read back, nothing else is read, and no two operations have one text.
+-- The text of an operation is read back, nothing else is read, and no two operations have one text. A print is apart from the others: its
+-- strings may contain spaces, so its text is not cut into words.
 use Rattle.std.proofs.Common.{◌≡◌, ◌≢◌, ℕ, true, false, true≢false, List, [], ◌∷◌, ◌++◌, length, take, drop, Option, Some, None, refl, sym, ap, subst, ◌∙◌, arith, codes}
 use Rattle.std.specs.List.{join_with_byte}
 use Rattle.std.specs.Str.{bytes_eq}

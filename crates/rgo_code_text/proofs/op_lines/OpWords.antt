@@ -15,7 +15,7 @@ use Rattle.rgo_code_words.specs.Worded.{IntFits, IsSmallNumber, AreSmall, AreReg
 use Rattle.rgo_code_words.proofs.Lacks.{From, AllFrom, from_test, from_cons, from_both, from_less, decimal_from, lettered_from, name_from}
 use Rattle.rgo_code_words.proofs.WordsBack.{arguments_from, bool_from, operator_from, regions_from, passes_from, value_from}
 
--- the first words of operations that are no actions
+-- the first words of operations other than actions
 abbrev pub is_keyword : List ℕ → Bool
 is_keyword word =
     bytes_eq word (codes "print") || (bytes_eq word (codes "call") || (bytes_eq word (codes "go")
@@ -63,7 +63,7 @@ three a b c f g h = and_word a (b ∷ c ∷ []) f (two b c g h)
 
 -- ---- actions
 
--- the words of an action or of another operation that is no print
+-- the words of an action or of another operation, but not of a print
 pub record Worded (words : List (List ℕ)) : Type 0 where
   pub some : 0 < length words
   pub short : length words ≤ 5
@@ -146,7 +146,7 @@ IsPrint op = ⊥
 pub removes_from : (removes : List ℕ) → AreRegions removes → From 33 (removes_word removes)
 removes_from removes r = regions_from 45 removes (omega arith) r
 
--- the words of an operation that is no print
+-- the words of an operation other than a print
 pub record OpWorded (words : List (List ℕ)) : Type 0 where
   pub some : 0 < length words
   pub short : length words ≤ 6

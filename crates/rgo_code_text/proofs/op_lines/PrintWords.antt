@@ -1,4 +1,4 @@
--- Prints are read back: their last word follows the last space.
+-- Prints are read back. Their removals contain no space, so the last space of the text is before them (`last_one`).
 use Rattle.std.proofs.Common.{◌≡◌, ◌≢◌, ◌⊎◌, inl, inr, ℕ, ◌+◌, ◌-◌, ◌<◌, ◌==◌, false, true≢false, List, [], ◌∷◌, ◌++◌, length, take, drop, get_or, Some, None, refl, sym, ap, subst, ◌∙◌, arith, length-drop, get_or-drop, codes}
 use Rattle.std.specs.List.{position_or_len, before_first, join_with_byte}
 use Rattle.std.proofs.lemmas.Bool.Decides.{Decides-eqb}

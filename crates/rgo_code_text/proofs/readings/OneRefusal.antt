@@ -17,7 +17,7 @@ no_newline b bytes line e = line (subst (Contains (b ∷ bytes)) e (Contains-get
 rest_line : (b : ℕ) (bytes : List ℕ) → IsLine (b ∷ bytes) → IsLine bytes
 rest_line b bytes line h = line (Contains-append_right (b ∷ []) bytes 10 h)
 
--- two lines with a newline and more behind them that are the same bytes
+-- two lines, each followed by a newline and more, that are the same bytes
 record SameLine (x y a b : List ℕ) : Type 0 where
   line : x ≡ y
   more : a ≡ b
@@ -33,7 +33,7 @@ same_line (c ∷ x) (d ∷ y) a b k l e =
     let lines = more.line in
     record { line = cc; more = more.more }
 
--- fewer lines of one text: the next line, and what stands behind it
+-- fewer lines of one text: the next line, and what follows it
 record Further (before after : List (List ℕ)) (tail end : List ℕ) : Type 0 where
   line : List ℕ
   rest : List (List ℕ)
@@ -79,7 +79,7 @@ begins_less bytes rest b = record {
   text = b.text ∙ append_assoc bytes rest b.rest;
 }
 
--- a line behind which more lines begin a text has a form
+-- a line after which more lines begin a text has a form
 no_stop : (before : List (List ℕ)) (tail line : List ℕ) (more : List ℕ) → IsLine line → tail ≡ line ++ 10 ∷ more
     → BeginsCode (ended_lines before ++ (line ++ 10 ∷ [])) → HasNoForm (ended_lines before) tail ⊎ EndsEarly (ended_lines before) tail → ⊥
 no_stop before tail line more is cut begins (inl stop) =

@@ -1,4 +1,5 @@
--- No two codes have one text, and a text is refused at the first line with which no text goes on.
+-- No two codes have one text, and a text is refused at the first line that no text of code continues with. The refusal is proved for
+-- lines in their places first, and then for all code: after each place some lines complete a text.
 use Rattle.std.proofs.Common.{◌≡◌, ◌↔◌, ◌⊎◌, inl, inr, ℕ, ◌+◌, ◌≤◌, Result, Err, MatchResult, List, [], ◌∷◌, ◌++◌, map, length, Option, Some, None, refl, sym, ap, subst, ◌∙◌, arith, append_assoc, length-append}
 use Rattle.std.specs.List.{All, Contains}
 use Rattle.std.specs.Option.{IsSome}
@@ -141,7 +142,7 @@ module _ (before : List Item) (place : Place) (fit : All ItemFits before) (leads
         last = l.last;
       }
 
-  -- no text goes on with this line
+  -- no text continues with this line
   no_form : (tail : List ℕ) → Stops place tail → HasNoForm (ended_lines (map item_line before)) tail
   no_form tail s = record {
     bytes = s.bytes;

@@ -1,4 +1,5 @@
--- Code that keeps the rules, and whose parts are printable, has a text.
+-- Code that keeps the rules, and whose parts are printable, has a text. The longest part: an action whose operands have the right types has
+-- words.
 use Rattle.std.proofs.Common.{◌≡◌, ◌≢◌, ℕ, zero, suc, ◌+◌, List, [], ◌∷◌, map, length, Option, Some, None, slice_get, refl, sym, ap, ◌∙◌, subst, arith}
 use Rattle.std.specs.List.{All, Contains}
 use Rattle.std.specs.List.Sorted.{IsStrictlyIncreasing}
@@ -62,7 +63,7 @@ module _ (from : List ℕ) (operands : List «Type») (same : length from ≡ le
   long : (ts : List «Type») → operands ≡ ts → length from ≡ length ts
   long ts e = same ∙ ap length e
 
-  -- an operator that computes takes two values, and is no `&&` and no `||`
+  -- an operator that computes takes two values, and is neither `&&` nor `||`
   computes : (d : ℕ) (op : BinaryOp) (t : «Type») → Computes op operands t
       → Worded (Some d) (action.Binary op) from × OperatorFits op
   computes d binary.And t h = absurd h

@@ -1,4 +1,4 @@
--- Actions: the steps of a frame that does an action, gives variables values, or prints.
+-- Actions: the steps of a frame that does an action, sets variables, or prints.
 use Rattle.std.proofs.Common.{◌≡◌, ℕ, ◌+◌, List, [], ◌∷◌, ◌++◌, map, length, take, drop, reverse}
 use Rattle.std.proofs.Common.{Option, Some, None}
 use Rattle.std.proofs.Common.{slice_get, refl, sym, ap, ◌∙◌, subst, ⊎_elim, arith}
@@ -39,7 +39,7 @@ use Rattle.rgo_lower.proofs.follows.Chains.{leads}
 use Rattle.rgo_lower.proofs.follows.Steps.{ActsAlike, StandsAlike, Goal, stutter, instr_is, together, values_same}
 use Rattle.rgo_lower.proofs.follows.Steps.{type_is, acts_alike, stands_alike}
 
--- the zero of a type is made, which is no operation on a channel
+-- the zero of a type is made, which is not an operation on a channel
 zero_does : (layers : List Layer) (b : Base) (structs : List Struct) (ty : «Type») (m : Memory)
     → perform structs (zero_action_in layers b) ty [] m ≡ Does m (zero_in layers b)
 zero_does [] base.Int structs ty m = refl

@@ -64,7 +64,7 @@ module _ (c : Setting) {loops : List Loop} {scope : LoweringScope} {p : Lowering
   jumped i loops2 scope2 q todo2 next inside fits loop at =
       (c.f, jumps i loops2 scope2 q [] [] todo2 next inside fits loop tt refl at, c.below)
 
-  -- both continue after an instruction that gives no value and took the newest n values
+  -- both continue after an instruction that returns no value and took the newest n values
   pub passes : (n : ℕ) (todo2 : List Todo) → At c todo2 loops scope (next_point p) (drop n held)
       → Fit c (record { locals = locals; values = drop n (map (g c) held); todo = todo2 })
       (moved_to c.frame (c.frame.next + 1))
@@ -73,7 +73,7 @@ module _ (c : Setting) {loops : List Loop} {scope : LoweringScope} {p : Lowering
       (ap (λ i. i + 1) h.next) (same_inside scope) h.fits h.loop (below_drop p.variable n held h.below)
       (sym (drop-map (g c) n held)) at
 
-  -- a variable that is no local variable's is given a value
+  -- a variable that belongs to no local variable is set
   pub writes : (to : ℕ) (v : Value) (q : LoweringPoint) (kept : List ℕ) (values : List Value) (todo2 : List Todo)
       → to < length c.f.variables → Fits c.f scope to → AreBelow to kept → q.instr ≡ p.instr + 1 → to < q.variable
       → p.variable ≤ q.variable → map (g c) kept ≡ values → At c todo2 loops scope q (to ∷ kept)
@@ -102,7 +102,7 @@ module _ (c : Setting) {loops : List Loop} {scope : LoweringScope} {p : Lowering
         },
       )
 
-  -- both continue after an instruction that gives the next variable a value and took the newest n values
+  -- both continue after an instruction that sets the next variable and took the newest n values
   pub gives : (n : ℕ) (v : Value) (todo2 : List Todo) → p.variable < length c.f.variables
       → At c todo2 loops scope (after_value p) (p.variable ∷ drop n held)
       → Fit c (record { locals = locals; values = v ∷ drop n (map (g c) held); todo = todo2 })

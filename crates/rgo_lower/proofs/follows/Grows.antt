@@ -1,4 +1,4 @@
--- Growth: the code of a part makes variables and gives none up, and what was in scope before is in scope after it.
+-- Growth: the code of a part adds variables and keeps all that were, and what was in scope before is in scope after it.
 use Rattle.std.proofs.Common.{◌≡◌, ◌≢◌, ℕ, ◌+◌, ◌<◌, ◌≤◌, Bool, true, false, List, [], ◌∷◌, length, Option, Some, None}
 use Rattle.std.proofs.Common.{refl, sym, ap, ◌∙◌, subst, arith, nat_eq, if◌then◌else◌}
 use Rattle.std.proofs.lemmas.Bool.Decides.{nat_tests}

@@ -1,4 +1,5 @@
--- Size: how many steps a frame of the source still takes by itself before its code does something.
+-- Size: how many steps a frame of the source still takes by itself before its code does something. It falls with each of them, so the
+-- source cannot move alone for ever.
 use Rattle.std.proofs.Common.{ℕ, suc, ◌+◌, List, [], ◌∷◌, Option, Some, None}
 use Rattle.rgo_typed.specs.Tree as tree
 use Rattle.rgo_typed.specs.Tree.{Term, Terms, Stmt, Stmts}

@@ -34,7 +34,7 @@ module _ (c : Setting) (loops : List Loop) (scope : LoweringScope) (p : Lowering
   abbrev Steps : List ℕ → List Todo → Type 0
   Steps held todo = Goal c (frame_of c locals held todo)
 
-  -- the source goes on alone from a statement to what it leaves to do
+  -- the source continues alone from a statement to what it leaves to do
   unfolds : (s : Stmt) (todo todo2 : List Todo) → Now [] (Execute s ∷ todo)
       → ((m : Memory) → source_act c.program m (frame_of c locals [] (Execute s ∷ todo))
       ≡ Moves m (frame_of c locals [] todo2))

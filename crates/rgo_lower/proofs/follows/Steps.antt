@@ -1,4 +1,5 @@
--- Steps: what is to be shown of a frame of the source and its code, and the ways to show it.
+-- Steps: what is to be shown of a frame of the source and its code, and the ways to show it. The source either moves alone (`stutter`), or
+-- both do the same (`together`).
 use Rattle.std.proofs.Common.{◌≡◌, ℕ, ◌<◌, List, [], ◌∷◌, map, take, reverse, Option, Some, refl, sym, ap, ◌∙◌}
 use Rattle.std.proofs.Common.{subst, inl, inr}
 use Rattle.std.specs.Prelude.{◌⊎◌, slice_get, option_and_then}
@@ -149,7 +150,7 @@ module _ (c : Setting) where
       (channels_alike (high.source c.program) (low.tac c.code) (Goroutines c) c.callers c.lows action (zero_of ty) place
       vs next next2 (λ v. (c.f, fit v, c.below))))
 
--- the source goes on alone, with other things to do at the same point of the code, and the same values
+-- the source continues alone, with other things to do at the same point of the code, and the same values
 pub goes_on : (c : Setting) {loops : List Loop} {scope : LoweringScope} {p : LoweringPoint} {held : List ℕ} {locals : List Value}
     {todo : List Todo} → Here c loops scope p held locals todo → (todo2 : List Todo)
     → source_stand c.program (frame_of c locals held todo) ≡ Elsewhere

@@ -1,4 +1,5 @@
--- The whole: lowered code follows the source machine, and both begin in states that match.
+-- The whole: lowered code follows the source machine, and both begin in states that match. Each thing that a frame still has to do has its
+-- lemma in one of the files beside this one; here they are put together, and `Size` is the measure of the steps without code.
 use Rattle.std.proofs.Common.{◌≡◌, ℕ, suc, List, [], ◌∷◌, map, length, Option, Some, None, refl, ap, ◌≤◌, subst, arith}
 use Rattle.std.specs.Prelude.{◌⊎◌, slice_get, codes}
 use Rattle.rgo_typed.specs.declared.types.Type.{«Type»}
