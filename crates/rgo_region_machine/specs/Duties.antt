@@ -1,4 +1,5 @@
--- What each step with a region does. A step that names a region that is not live cannot be done.
+-- What each duty does. A share, a protection and a removal have a step only if their region is live. A creation names no region,
+-- and the end of a protection needs no test: a goroutine has a stake in what it protects (`NameInvariant` of rgo_sound).
 use Rattle.std.specs.Prelude.{ℕ, Bool, true, false, ◌||◌, List, [], ◌∷◌, ◌++◌, length, Option, Some, None}
 use Rattle.std.specs.Prelude.{slice_set, nat_eq, option_and_then, if◌then◌else◌}
 use Rattle.std.specs.List.{list_any}
@@ -15,30 +16,36 @@ attended s g h = record s { holders = slice_set s.holders g h }
 
 -- ---- protections
 
+-- the environments after the newest frame has protected r once more
 abbrev pub with_protection : List RegionEnvironment → Region → List RegionEnvironment
 with_protection [] r = []
 with_protection (e ∷ es) r = record e { protections = r ∷ e.protections } ∷ es
 
+-- the environments after one protection of r by the newest frame has ended
 abbrev pub without_protection : List RegionEnvironment → Region → List RegionEnvironment
 without_protection [] r = []
 without_protection (e ∷ es) r = record e { protections = removed_once r e.protections } ∷ es
 
--- whether a goroutine with this base and these environments protects the region
+-- Whether a goroutine with this base and these environments protects the region, in any frame: a caller's protection also holds
+-- for what the functions above its callee do.
 abbrev pub guards : List Region → List RegionEnvironment → Region → Bool
 guards base [] r = list_any (same_region r) base
 guards base (e ∷ es) r = list_any (same_region r) e.protections || guards base es r
 
+-- the state after the newest frame of goroutine g, whose holder is h, has protected r; none if r is not live
 abbrev pub protected : RegionState → ℕ → Holder → Region → Option RegionState
 protected s g h r =
     if is_live s.regions r
     then Some (attended s g (record h { environments = with_protection h.environments r })) else None
 
+-- the holder after one protection of r by its newest frame has ended
 abbrev pub unprotected : Holder → Region → Holder
 unprotected h r = record h { environments = without_protection h.environments r }
 
 -- ---- stakes
 
--- a new region, in which its creator has a stake
+-- A new region, in which its creator has a stake. Its number is the length of the list, so a number is never used twice. The name
+-- is unbound first, so that a frame has one entry for it.
 abbrev pub created : RegionState → ℕ → Holder → ℕ → RegionState
 created s g h k =
     let r = length s.regions in
@@ -49,8 +56,9 @@ created s g h k =
       regions = s.regions ++ record { stakes = 1; pages = 0 } ∷ [];
     }
 
--- A removal does nothing to Global, nor to a region that the goroutine protects. Else its stake ends; the region goes
--- with the last stake.
+-- A removal does nothing to Global, nor to a region that the goroutine itself protects: an older frame still uses that one and
+-- removes it later. Otherwise the goroutine's stake ends, and with the last stake the region is removed. What other goroutines
+-- protect does not matter: they have stakes of their own.
 abbrev pub removal : RegionState → ℕ → Holder → Region → Option RegionState
 removal s g h GlobalRegion = Some (attended s g h)
 removal s g h (Numbered r) =
@@ -63,7 +71,8 @@ removal s g h (Numbered r) =
     }))
     else None
 
--- a stake for a goroutine that is about to start; one for each region
+-- A stake for a goroutine that is about to start: one for each region, however often it is passed. It is taken before the start
+-- because the parent might remove the region before the child has done a step.
 abbrev pub shared : RegionState → ℕ → Holder → Region → Option RegionState
 shared s g h GlobalRegion = Some (attended s g h)
 shared s g h (Numbered r) =
@@ -78,7 +87,7 @@ shared s g h (Numbered r) =
 
 -- ---- duties
 
--- one duty; h has the others left
+-- one duty; h has the others left; a duty whose name denotes no region has no step
 abbrev pub duty_done : RegionState → ℕ → Holder → Duty → Option RegionState
 duty_done s g h (Create k) = Some (created s g h k)
 duty_done s g h (Share k) = option_and_then (shared s g h) (bound (top_names h.environments) k)
@@ -91,7 +100,7 @@ duty_done s g h (Remove k) =
     (bound (top_names h.environments) k)
 duty_done s g h (EndBase r) = removal s g (record h { base = removed_once r h.base }) r
 
--- an offer that was taken is acknowledged before anything else
+-- An offer that was taken is acknowledged before anything else: a duty might end the stake that keeps its channel live.
 abbrev pub may_go : Offer → Bool
 may_go (Taken channel) = false
 may_go NoOffer = true

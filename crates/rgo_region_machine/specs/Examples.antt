@@ -1,4 +1,5 @@
--- Small code with regions, its runs, and the room that they use.
+-- Small code with regions, its runs, and the room that they use. Beside each example that has a step is one that has none, so
+-- that a definition which allows too much fails here as well as one that allows too little.
 use Rattle.std.specs.Prelude.{◌≡◌, ℕ, false, true, List, [], ◌∷◌, ◌++◌, Option, Some, None, IfSome, pos, replicate}
 use Rattle.std.specs.Prelude.{option_and_then, codes, slice_get}
 use Rattle.rgo_region_machine.specs.declared.regions.Region.{Region}
@@ -151,7 +152,7 @@ trapping = small_code [] (main_of (slot_in_class (slice_of int) (Name 0) ∷ int
     ∷ plain_instr (Do (Some 2) action.At (0 ∷ 1 ∷ []) (0 ∷ []))
     ∷ plain_instr (Return None) ∷ []) ∷ [])
 
--- x := new(N); y := new(N), each in a region of its own. What the first of them removes is gone before the second.
+-- x := new(N); y := new(N), each in a region of its own. What the first instruction removes is gone before the second creates.
 abbrev pub two_objects : (removes : List ℕ) → Code
 two_objects removes = small_code (node_struct ∷ []) (main_of (node_slot (Name 0) ∷ node_slot (Name 1) ∷ []) (
     creating_instr (0 ∷ []) (Do (Some 0) (action.New 0) [] removes)
@@ -221,7 +222,8 @@ step = Instruct (One 0)
 abbrev pub one_object_run : List Event
 one_object_run = Attend 0 ∷ TakePage 0 ∷ step ∷ step ∷ step ∷ Attend 0 ∷ step ∷ step ∷ []
 
--- The call comes after its protection. The two removals in the callee do nothing; the caller's one removes the region.
+-- The call comes after its protection. The two removals in the callee do nothing, since the caller protects the region; the
+-- caller's own one removes it.
 abbrev pub passed_twice_run : List Event
 passed_twice_run =
     step ∷ Attend 0 ∷ TakePage 0 ∷ step ∷ step ∷ Attend 0 ∷ step
@@ -238,12 +240,13 @@ abbrev pub meeting_run : List Event
 meeting_run = before_the_meeting
     ++ (MakeOffer 1 ∷ Instruct (Meet 0 1) ∷ Acknowledge 1 ∷ Attend 1 ∷ Instruct (One 1) ∷ Attend 0 ∷ step ∷ step ∷ [])
 
--- the print comes before the sender's acknowledgement
+-- the print comes before the sender's acknowledgement: the receiver does not wait for it
 abbrev pub other_meeting_run : List Event
 other_meeting_run = before_the_meeting
     ++ (MakeOffer 1 ∷ Instruct (Meet 0 1) ∷ Attend 0 ∷ step ∷ Acknowledge 1 ∷ Attend 1 ∷ step ∷ [])
 
--- The child's two removals do nothing, since its region was given at two positions; it goes when the child has returned.
+-- The child's two removals do nothing, since its region was passed at two positions and is in its base; the region is removed when
+-- the child has returned.
 abbrev pub started_twice_run : List Event
 started_twice_run =
     Attend 0 ∷ TakePage 0 ∷ step ∷ Attend 0 ∷ Attend 0 ∷ step ∷ Attend 0
@@ -257,7 +260,7 @@ both_live_run = Attend 0 ∷ TakePage 0 ∷ step ∷ Attend 0 ∷ TakePage 0 ∷
 abbrev pub one_live_run : List Event
 one_live_run = Attend 0 ∷ TakePage 0 ∷ step ∷ Attend 0 ∷ Attend 0 ∷ TakePage 0 ∷ step ∷ []
 
--- the size, the region, and n pages for the object
+-- the size is computed, the region is created, and n pages are taken for the object
 abbrev pub taking_pages : (pages : ℕ) → List Event
 taking_pages pages = step ∷ Attend 0 ∷ replicate pages (TakePage 0)
 
@@ -267,11 +270,11 @@ long_slice_run pages = taking_pages pages ++ (replicate 7 step ++ (Attend 0 ∷ 
 abbrev pub long_channel_run : (pages : ℕ) → List Event
 long_channel_run pages = taking_pages pages ++ (step ∷ step ∷ step ∷ Attend 0 ∷ step ∷ step ∷ [])
 
--- the second structure goes into the page in which the first one is
+-- the second structure goes into the page of the first one: the pages of the slice between them are not the own page
 abbrev pub slice_between_run : (pages : ℕ) → List Event
 slice_between_run pages = Attend 0 ∷ TakePage 0 ∷ step ∷ step ∷ (replicate pages (TakePage 0) ++ (step ∷ step ∷ []))
 
--- `main` returns after f has taken one of its pages
+-- `main` returns after f has taken one of its pages: the object is never made, and the page stays with its region
 abbrev pub left_alone_run : List Event
 left_alone_run = step ∷ Instruct (One 1) ∷ Attend 1 ∷ TakePage 1 ∷ step ∷ []
 
@@ -310,14 +313,14 @@ pub record RegionExamples : Type 0 where
       : EventsLeadTo sender_and_receiver other_meeting_run (line_of_one 5) (Some (Ended Exit)) (region_counts 1 1 1 1 7 1 2)
   pub before_base : EventsLeadTo started_twice started_twice_run [] None (region_counts 1 0 1 0 3 1 2)
   pub after_base : EventsLeadTo started_twice (started_twice_run ++ (Attend 1 ∷ [])) [] None (region_counts 1 1 1 1 3 1 2)
-  -- no object is made before its region and its page are there
+  -- no object is made before its region exists and a page is taken for it
   pub no_region : region_run aliased_object 16 (step ∷ []) ≡ None
   pub no_page : region_run aliased_object 16 (Attend 0 ∷ step ∷ []) ≡ None
-  -- in pages of one word nothing is spread, since no lead page has a page number
+  -- in pages of one word every spread object is too large, since a lead page has no room for a page number
   pub too_large : region_run aliased_object 1 (Attend 0 ∷ TakePage 0 ∷ []) ≡ None
   -- the protection is owed before the call
   pub unprotected : region_run passed_twice 16 unprotected_run ≡ None
-  -- nobody meets a sender that has not offered
+  -- a receiver cannot meet a sender that has not offered
   pub no_offer : region_run sender_and_receiver 16 (before_the_meeting ++ (Instruct (Meet 0 1) ∷ [])) ≡ None
   -- the acknowledgement comes before what the sender owes
   pub no_acknowledgement
@@ -326,7 +329,7 @@ pub record RegionExamples : Type 0 where
   -- after a trap nothing is owed
   pub trap : region_run trapping 16 (step ∷ Attend 0 ∷ TakePage 0 ∷ step ∷ step ∷ Attend 0 ∷ []) ≡ None
 
--- the fills of the first goroutine, and how many pages it has reserved
+-- the fills of the first goroutine, and the number of pages that it has reserved
 abbrev pub page_state : RegionState → Option (List (Region × ℕ) × ℕ)
 page_state s = option_and_then (λ (h : Holder). Some (h.fills, h.reserved)) (slice_get s.holders 0)
 
@@ -349,10 +352,10 @@ pub record SpreadExamples : Type 0 where
   -- 256 elements fill a data page
   pub one_data_page : GivesIn 256 (long_slice 256 255 254) (long_slice_run 2) (line_of_two 9 0) (Some (Ended Exit))
       (region_counts 1 1 2 2 10 1 1)
-  -- it is made when it has all of its pages, and then takes no more
+  -- an object is made when all of its pages are taken, and no more are taken for it
   pub too_few : region_run (long_slice 257 256 255) 256 (taking_pages 2 ++ (step ∷ [])) ≡ None
   pub too_many : region_run (long_slice 257 256 255) 256 (taking_pages 4) ≡ None
-  -- 14 page numbers fit a page of 16 words beside the length and another word, and no more
+  -- a page of 16 words has room for 14 page numbers after two words
   pub most : EventsLeadTo (long_slice 224 223 222) (long_slice_run 15) (line_of_two 9 0) (Some (Ended Exit))
       (region_counts 1 1 15 15 10 1 1)
   pub over_most : region_run (long_slice 225 224 223) 16 (taking_pages 1) ≡ None
@@ -361,7 +364,7 @@ pub record SpreadExamples : Type 0 where
   pub over_longest : is_too_large 256 (Channel 16385 [] false) ≡ true
   pub longest_pages : data_pages 256 (SliceObject (replicate 16384 value.Nil)) ≡ 64
   pub over_longest_pages : data_pages 256 (SliceObject (replicate 16385 value.Nil)) ≡ 65
-  -- the own page stays as it is, before the object is made and after that; the second structure goes there
+  -- the own page stays as it is before the object is made and after that; the second structure goes there
   pub reserved : HasPages (slice_between 17) (Attend 0 ∷ TakePage 0 ∷ step ∷ step ∷ TakePage 0 ∷ TakePage 0 ∷ [])
       ((Numbered 0, 2) ∷ []) 2
   pub own_page_filled : HasPages (slice_between 17) (slice_between_run 3) ((Numbered 0, 4) ∷ []) 0
@@ -377,7 +380,7 @@ small_sizes pages regions = record { page_words = 16; pages = pages; regions = r
 abbrev pub used : RegionState → ℕ × ℕ
 used s = (pages_in_use s, live_regions s)
 
--- how many pages are in use after these events, and how many regions are live
+-- after these events, this many pages are in use, and this many regions are live
 abbrev pub Uses : Code → List Event → (pages regions : ℕ) → Type 0
 Uses code events pages regions =
     option_and_then (λ s. Some (used s)) (region_run code 16 events) ≡ Some (pages, regions)
@@ -386,12 +389,12 @@ Uses code events pages regions =
 abbrev pub HasRoomIn : Sizes → Code → List Event → Type 0
 HasRoomIn sizes code events = roomy_run code sizes events ≡ region_run code 16 events
 
--- how many pages are enough for what the run after these events has made and makes next
+-- after these events, this many pages are enough for what the run has made and makes next
 abbrev pub IsEnough : Code → List Event → (pages : ℕ) → Type 0
 IsEnough code events pages =
     option_and_then (λ s. Some (enough_pages code 16 s)) (region_run code 16 events) ≡ Some pages
 
--- after these events there is a lack
+-- after these events some room is lacking
 abbrev pub Lacks : Sizes → Code → Shortage → List Event → Type 0
 Lacks sizes code short events = IfSome (region_run code 16 events) (LacksIn code sizes short)
 
@@ -401,29 +404,29 @@ FitsAfter sizes code events = IfSome (region_run code 16 events) (StateFitsIn si
 
 pub record RegionRoomExamples : Type 0 where
   pub one : Uses aliased_object (Attend 0 ∷ TakePage 0 ∷ []) 1 1
-  -- what a removed region had is not in use
+  -- the pages of a removed region are not in use
   pub none : Uses aliased_object one_object_run 0 0
   pub first_removed : Uses one_live one_live_run 1 1
   pub both : Uses both_live both_live_run 2 2
   pub room_for_one : HasRoomIn (small_sizes 1 1) aliased_object one_object_run
   pub room_again : HasRoomIn (small_sizes 1 1) one_live one_live_run
   pub room_for_both : HasRoomIn (small_sizes 2 2) both_live both_live_run
-  -- as many pages are in use as there may be, or as many regions live
+  -- the second page, or the second region, is one more than the sizes allow
   pub no_page : roomy_run both_live (small_sizes 1 2) both_live_run ≡ None
   pub no_region : roomy_run both_live (small_sizes 2 1) both_live_run ≡ None
   pub fits : FitsAfter (small_sizes 2 2) both_live both_live_run
   pub too_many_pages : FitsAfter (small_sizes 1 2) both_live both_live_run → ⊥
   pub too_many_regions : FitsAfter (small_sizes 2 1) both_live both_live_run → ⊥
-  -- where nothing is spread, as many as objects and goroutines
+  -- if nothing is spread, objects and goroutines together
   pub enough_for_one : IsEnough aliased_object one_object_run 2
   pub enough_for_both : IsEnough both_live both_live_run 3
-  -- three pages for the object that is made next, and then for as many again
+  -- three pages for the object that is made next; once it is made, three for it and three for a next one of its size
   pub enough_before : IsEnough (long_slice 17 16 15) (taking_pages 3) 3
   pub enough_after : IsEnough (long_slice 17 16 15) (long_slice_run 3) 6
   -- a spread object needs room for all of its pages
   pub room_for_spread : HasRoomIn (small_sizes 3 1) (long_slice 17 16 15) (long_slice_run 3)
   pub no_room_for_spread : roomy_run (long_slice 17 16 15) (small_sizes 2 1) (taking_pages 3) ≡ None
   pub lacks_pages : Lacks (small_sizes 2 1) (long_slice 17 16 15) shortage.Pages (taking_pages 2)
-  -- an object is too large from the beginning on
+  -- an object is too large before any page is taken for it
   pub lacks_size : Lacks (small_sizes 99 1) (long_slice 225 224 223) shortage.ObjectSize (taking_pages 0)
   pub has_size : Lacks (small_sizes 99 1) (long_slice 224 223 222) shortage.ObjectSize (taking_pages 0) → ⊥

@@ -1,4 +1,5 @@
-//! The region machine: three-address code that runs with its regions.
+//! The region machine: three-address code that runs with its regions. It is a definition; `rgo_region_interpreter` and the table of
+//! `rgo_core` execute it. The only code here are the types that their answers share with it.
 #![tactic(auto)]
 
 mod laws;

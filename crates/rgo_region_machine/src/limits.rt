@@ -1,17 +1,17 @@
-//! What ends a run before its program does.
+//! Limits: what ends a run before its program does, as the region machine's end mark has it.
 
 /// What ends a run before its program does.
 #[derive(Clone, Copy, Debug, PartialEq, Eq)]
 pub enum Limit {
-    /// All pages are taken, and an object wants another one.
+    /// As many pages are in use as the sizes allow, and an object needs another one.
     Pages,
-    /// There are as many regions as there may be, and another one is to be created.
+    /// As many regions are live as the sizes allow, and another one is to be created.
     Regions,
-    /// An object wants more data pages than one can have.
+    /// An object needs more data pages than an object can have.
     ObjectSize,
-    /// A goroutine that has as many frames as it may have calls a function.
+    /// A goroutine with as many frames as it may have calls a function.
     Calls,
-    /// There are as many goroutines as there may be, and one starts another.
+    /// As many goroutines exist as there may be, and one of them starts another.
     Goroutines,
     /// Memory ran out.
     Memory,

@@ -1,7 +1,7 @@
 //! Regions.
 
-/// A region: that of the package variables and of all that is reached from them, which is never removed, or another one
-/// by its number.
+/// A region: Global, or another one by its number. Global has the objects that are reached from package variables. It is never
+/// removed, since a package variable may be read as long as the program runs; so it needs no number and no stakes.
 #[derive(Clone, Copy, Debug, PartialEq, Eq)]
 pub enum Region {
     Global,

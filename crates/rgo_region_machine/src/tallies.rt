@@ -1,4 +1,5 @@
-//! What a run has made and done, in numbers that the sums of all goroutines fit.
+//! What a run has made and done, counted in 128 bits: each goroutine counts its share in 64 bits, and the sum of all shares must
+//! not overflow, since it is proved to be the machine's count.
 
 /// What a run has made and done. The sums of a million shares fit.
 #[derive(Clone, Copy, Debug, PartialEq, Eq)]

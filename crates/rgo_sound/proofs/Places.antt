@@ -1,4 +1,5 @@
--- Lists by position: after a write, in a longer list, and of each element; and being in a list.
+-- Lists by position: after a write, in a longer list, and of each element; and membership. The machine's states are lists by number, so
+-- every part of the proof cites these lemmas; none of them speaks of regions.
 use Rattle.std.proofs.Common.{◌≡◌, ℕ, zero, suc, ◌+◌, ◌<◌, false, List, [], ◌∷◌, ◌++◌, length, Some, refl, ap, subst}
 use Rattle.std.proofs.Common.{nat_eq, arith, ◌⊎◌, inl, inr, slice_get, slice_set, slice_index, replicate, rules}
 use Rattle.std.proofs.lemmas.Option.{same_Some}
@@ -40,7 +41,7 @@ get_some [] i h = absurd (omega (arith, h))
 get_some (y ∷ ys) zero h = (y, refl)
 get_some (y ∷ ys) (suc i) h = get_some ys i (omega (arith, h))
 
--- an element of a list with one more
+-- the element at a position of a list with one more at its end
 pub get_snoc : {X : Type 0} (xs : List X) (x : X) (i : ℕ) (y : X) → slice_get (xs ++ x ∷ []) i ≡ Some y
     → (slice_get xs i ≡ Some y) ⊎ ((i ≡ length xs) × (y ≡ x))
 get_snoc [] x zero y h = inr (refl, cc)
@@ -64,7 +65,7 @@ tail_is x y xs ys e = cc
 pub no_cons : {X : Type 0} (x : X) (xs : List X) → ◌≡◌ {A = List X} [] (x ∷ xs) → ⊥
 no_cons x xs e = cc
 
--- ---- one list behind the other
+-- ---- one list after another
 
 pub get_front : {X : Type 0} (xs ys : List X) (i : ℕ) (x : X) → slice_get xs i ≡ Some x → slice_get (xs ++ ys) i ≡ Some x
 get_front [] ys i x e = cc
@@ -88,7 +89,7 @@ get_append_cases [] ys i x e = inr (i, e)
 get_append_cases (y ∷ xs) ys zero x e = inl e
 get_append_cases (y ∷ xs) ys (suc i) x e = get_append_cases xs ys i x e
 
--- an element of two lists is at a position of one of them
+-- an element of two lists together is at a position of one of them
 pub get_append_place : {X : Type 0} (xs ys : List X) (i : ℕ) (x : X) → slice_get (xs ++ ys) i ≡ Some x
     → (slice_get xs i ≡ Some x) ⊎ ((j : ℕ) × (i ≡ length xs + j) × (slice_get ys j ≡ Some x))
 get_append_place [] ys i x e = inr (i, omega arith, e)
@@ -171,7 +172,7 @@ pub contains_cases : {X : Type 0} (y : X) (ys : List X) (x : X) → Contains (y 
 contains_cases y ys x (zero, h, e) = inl e
 contains_cases y ys x (suc k, h, e) = inr (k, omega (arith, h), e)
 
--- whether a number stands in a list
+-- a number is in a list or not
 pub stands_or_not : (xs : List ℕ) (v : ℕ) → Contains xs v ⊎ (¬ (Contains xs v))
 stands_or_not [] v = inr (λ c. contains_nil v c)
 stands_or_not (x ∷ xs) v = go (stands_or_not xs v)

@@ -1,4 +1,9 @@
 -- No step is missing: each instruction of the three-address machine can be done after some region steps.
+-- The goroutine first does what it owes: by the invariant each duty can be done in its turn (`clear_duties`). Then what it touches is
+-- live, by `names_only_live`. There are two hard cases. An object may need pages first, a spread one several: the induction is on how
+-- many are missing (`can_spread`). At a meeting the channel may have the offer of another sender. An open one is taken in place of the
+-- sender's own; one that was taken is acknowledged first, and the search begins again. It ends because fewer goroutines have to
+-- acknowledge each time (`loop`).
 use Rattle.std.proofs.Common.{◌≡◌, ◌≢◌, ℕ, zero, suc, ◌+◌, ◌<◌, Bool, true, false, not, ◌&&◌, ◌||◌, List, [], ◌∷◌, map}
 use Rattle.std.proofs.Common.{length, Option, Some, None, IsSome, refl, sym, ap, ◌∙◌, subst, nat_eq, nat_le, nat_lt}
 use Rattle.std.proofs.Common.{if◌then◌else◌, arith, true≢false, slice_get, slice_set, option_map, option_and_then, inr}
@@ -96,9 +101,10 @@ one_step code p g frames running at =
     ∙ ap (option_and_then (machine_alone (tac (erased code)) p g)) at
     ∙ alone_is (erased code) p g running frames at
 
--- ---- the steps of a goroutine that is cleared: its acknowledgement, and its duties
+-- ---- a goroutine is cleared: its acknowledgement is done, and then its duties
 
--- another state, in which only one goroutine has another holder
+-- t is s after region steps of goroutine g alone. The plain state is the same, so the step of the three-address machine that is to be
+-- done still exists.
 pub record Cleared (code : Code) (s : RegionState) (g : ℕ) (t : RegionState) (k : Holder) : Type 0 where
   pub good : AllGood code t
   pub plain : t.plain ≡ s.plain
@@ -153,7 +159,7 @@ live_of s h GlobalRegion x = refl
 live_of s h (Numbered q) x = x.0
 
 module _ (code : Code) (page_words : ℕ) (checked : IsChecked code) (written : Ascends code) (like : Pick) where
-  -- a region step first
+  -- what can be done after a region step can be done from the state before it
   first_step : (s t : RegionState) (event : Event) → IsRegionStep event → region_step code page_words s event ≡ Some t
       → CanInstruct code page_words t like → CanInstruct code page_words s like
   first_step s t event is e can =
@@ -189,7 +195,8 @@ module _ (code : Code) (page_words : ℕ) (checked : IsChecked code) (written : 
   GoesOn s g = (t : RegionState) (k : Holder) → Cleared code s g t k → k.duties ≡ [] → may_go k.offer ≡ true
       → CanInstruct code page_words t like
 
-  -- the duties of a goroutine that may go on, one after the other
+  -- the duties of a goroutine that has nothing to acknowledge, one after the other; each keeps the invariant, from which the next one
+  -- can be done
   clear_duties : (ds : List Duty) (s : RegionState) (g : ℕ) (h : Holder) → AllGood code s → slice_get s.holders g
       ≡ Some h → h.duties ≡ ds → may_go h.offer ≡ true → GoesOn s g → CanInstruct code page_words s like
   clear_duties [] s g h all e d m on = on s h (record { good = all; plain = refl; there = e; others = λ j n. refl }) d m
@@ -226,7 +233,7 @@ module _ (code : Code) (page_words : ℕ) (checked : IsChecked code) (written : 
       here : slice_get x.0.holders g ≡ Some a.after
       here = ap (λ y. slice_get y g) a.holders ∙ get_set_same s.holders g h a.after e
 
-  -- an acknowledgement can be done
+  -- an acknowledgement can be done: the invariant on offers says that the channel is live
   acknowledges : (s : RegionState) (g : ℕ) (h : Holder) (o : ℕ) → AllGood code s → slice_get s.holders g ≡ Some h
       → h.offer ≡ Taken o → region_step code page_words s (Acknowledge g)
       ≡ Some (attended s g (record h { offer = NoOffer }))
@@ -266,7 +273,7 @@ module _ (code : Code) (page_words : ℕ) (checked : IsChecked code) (written : 
                 λ j n. c.others j n ∙ get_set_other s.holders g j (record h { offer = NoOffer }) n;
           }) dk mk))
 
-  -- ---- a goroutine that is cleared is ready
+  -- ---- a cleared goroutine is ready
 
   ready_now : (s : RegionState) (g : ℕ) (h : Holder) (frame : TacFrame) (callers : List TacFrame) (instr : CodeInstr)
       → AllGood code s → slice_get s.holders g ≡ Some h → frames_of s.plain g ≡ frame ∷ callers → current code frame
@@ -285,9 +292,9 @@ module _ (code : Code) (page_words : ℕ) (checked : IsChecked code) (written : 
       live (Some o) q = let x = touched_home code s g h frame callers instr top o checked all.good e at cur q in
           ap (owner_live s) x.1 ∙ live_of s h x.0 x.2
 
--- ---- where an object is made there is a region for it
+-- ---- an instruction that makes an object has a region for it
 
--- an instruction that makes an object has a target, whose type is pointer-like
+-- an instruction that makes an object has a target, whose type is pointer-like; so by rule 3 the target has a class
 pub record HasTarget (f : TacFn) (to : Option ℕ) : Type 0 where
   pub variable : ℕ
   pub is : to ≡ Some variable
@@ -346,7 +353,7 @@ module _ (code : Code) (checked : IsChecked code) (s : RegionState) (g : ℕ) (h
   settled : Settled top.stands.fn frame.next instr top.f.names top.f.protections
   settled = standing_settled code frame top.f h.duties instr top.stands cur d
 
-  -- the target of an instruction has a region, where it is pointer-like
+  -- the target of an instruction has a region, if it has a class: the instruction uses the name of that class, so it is bound
   target_region : (to : Option ℕ) (action : Action) (from removes : List ℕ) → instr.op ≡ Do to action from removes
       → (d : ℕ) → to ≡ Some d → class_of top.stands.fn d ≢ NoClass → (r : Region)
       × (class_region top.f.names (class_of top.stands.fn d) ≡ Some r)
@@ -369,7 +376,7 @@ module _ (code : Code) (checked : IsChecked code) (s : RegionState) (g : ℕ) (h
               settled.there settled.made settled.lent names z)
           some (Some r) z = (r, z)
 
-  -- an instruction that makes an object gives a variable a pointer
+  -- an instruction that makes an object writes a pointer to a variable
   pub target : (to : Option ℕ) (action : Action) (from removes : List ℕ) → instr.op ≡ Do to action from removes
       → makes_object action ≡ true → HasTarget (erased_fn top.stands.fn) to
   target to action from removes is m = made_pointer (erased code) (erased_fn top.stands.fn) to action t.0 t.2 m
@@ -416,7 +423,7 @@ module _ (code : Code) (checked : IsChecked code) (s : RegionState) (g : ℕ) (h
       by (Branch v j removes k others) is m = absurd (true≢false (sym m))
       by (Return value) is m = absurd (true≢false (sym m))
 
-  -- where there is a new object, there is a region for it
+  -- if a step has made an object, the instruction has a region for it
   object_region : (a : Acted) → alone (erased code) s.plain.memory (frame ∷ callers) ≡ Some a → (object : Object)
       → slice_get a.memory.heap (length s.plain.memory.heap) ≡ Some object → (r : Region)
       × (making_region (function_at code frame) (top_names h.environments) instr.op ≡ Some r)
@@ -469,7 +476,7 @@ module _ (code : Code) (page_words : ℕ) (checked : IsChecked code) (written : 
       ∙ ap (option_and_then (instructed code page_words s g h frame callers (after s.plain g a))) cur
       ∙ ap (option_and_then (some_instructed code s g frame callers instr (after s.plain g a))) fits)
 
-  -- a goroutine that owes nothing is to make the object x in region r
+  -- A goroutine that owes nothing is to make the object x in region r. These facts hold again after each page, so they are one record.
   record MakesNow (s : RegionState) (h : Holder) (frame : TacFrame) (callers : List TacFrame) (instr : CodeInstr) (a : Acted)
       (r : Region) (x : Object) : Type 0 where
     all : AllGood code s
@@ -484,7 +491,7 @@ module _ (code : Code) (page_words : ℕ) (checked : IsChecked code) (written : 
     makes : new_object s.plain (after s.plain g a) ≡ Some x
 
   module _ (frame : TacFrame) (callers : List TacFrame) (instr : CodeInstr) (a : Acted) (r : Region) (x : Object) where
-    -- it has its place
+    -- the object has its place now, so the instruction can be done
     makes_at_once : (s : RegionState) (h : Holder) (given : Holder × List Region)
         → MakesNow s h frame callers instr a r x → allotted page_words h (Some r) (Some x) ≡ Some given
         → CanInstruct code page_words s (One g)
@@ -505,7 +512,7 @@ module _ (code : Code) (page_words : ℕ) (checked : IsChecked code) (written : 
     same_holders s k GlobalRegion = refl
     same_holders s k (Numbered n) = refl
 
-    -- it takes a page first
+    -- it takes a page first; a page changes no frame and no memory, so the object to be made is the same after it
     makes_later : (s : RegionState) (h : Holder) → MakesNow s h frame callers instr a r x
         → wants_page page_words h.reserved (fill_of h.fills r) x ≡ true
         → (MakesNow (paged s h) (with_page page_words h r x) frame callers instr a r x
@@ -562,7 +569,7 @@ module _ (code : Code) (page_words : ℕ) (checked : IsChecked code) (written : 
             live
             ∙ ap (λ b. if b then Some (paged s h) else None) wants
 
-    -- an object that is not spread: in the own page, if need be in a new one
+    -- an object that is not spread: in the own page, or in a new one, where it fits because it has no more words than a page
     module _ (whole : is_spread page_words x ≡ false) where
       in_own : (h : Holder) (used : ℕ) → fill_of h.fills r ≡ Some used → nat_le (used + object_words x) page_words ≡ true
           → allotted page_words h (Some r) (Some x) ≡ Some
@@ -597,7 +604,7 @@ module _ (code : Code) (page_words : ℕ) (checked : IsChecked code) (written : 
               (λ t. makes_at_once s h _ k (in_own h used w t))
               (λ n. new_page (ap (λ o. fits_in_page page_words o (object_words x)) w ∙ n))
 
-    -- a spread object: when all of its pages were taken
+    -- a spread object, once all of its pages are taken; n bounds how many are missing
     module _ (spread : is_spread page_words x ≡ true) (small : is_too_large page_words x ≡ false) where
       in_pages : (h : Holder) → nat_lt (data_pages page_words x) h.reserved ≡ true
           → allotted page_words h (Some r) (Some x) ≡ Some (record h { reserved = 0 }, r ∷ [])
@@ -717,7 +724,7 @@ pub frames_some : (o : Option (List TacFrame)) (frame : TacFrame) (callers : Lis
 frames_some None frame callers e = cc
 frames_some (Some fs) frame callers e = ap Some e
 
--- where a goroutine stands that is to send
+-- how the three-address machine sees a goroutine whose next instruction is a send
 pub stand_of : (code : Code) (p : TacState) (g o : ℕ) (st : StandsAtSend code p g o) → tac_stand (erased code) st.frame
     ≡ AtSend (value_at st.frame st.channel) (value_at st.frame st.sent) st.instr.place (frame_after_instr st.frame st.to value.Nil)
 stand_of code p g o st =
@@ -736,7 +743,7 @@ find_offer (h ∷ hs) o e = go (offers_on o h.offer) refl e (find_offer hs o)
     go true q e next = (0, h, refl, q)
     go false q e next = let x = next e in (suc x.0, x.1, x.2, x.3)
 
--- the goroutines that have to acknowledge
+-- 1 for a goroutine that has to acknowledge: the sum over all is what gets smaller in `loop`
 abbrev is_taken : Holder → ℕ
 is_taken k = one_when (not (may_go k.offer))
 
@@ -822,7 +829,7 @@ module _ (code : Code) (page_words : ℕ) (checked : IsChecked code) (written : 
     none : k.duties ≡ []
     free : may_go k.offer ≡ true
 
-  -- another state, in which another goroutine has acknowledged
+  -- what is known of the receiver still holds after another goroutine has acknowledged
   moved_channel : (s t : RegionState) (h : Holder) → AtChannel s h → AllGood code t → t.plain ≡ s.plain
       → slice_get t.holders r ≡ Some h → AtChannel t h
   moved_channel s t h x good plain there =
@@ -859,7 +866,7 @@ module _ (code : Code) (page_words : ℕ) (checked : IsChecked code) (written : 
   }
 
   module _ (apart : nat_eq r u ≡ false) where
-    -- nobody offers there: the sender does
+    -- no offer is at the channel: the sender makes one, and then the two meet
     offers_then : (s : RegionState) (h k : Holder) → AtChannel s h → Sends s k
         → list_any (λ (q : Holder). offers_on o q.offer) s.holders ≡ false → CanInstruct code page_words s (Meet r u)
     offers_then s h k x y none =
@@ -887,7 +894,7 @@ module _ (code : Code) (page_words : ℕ) (checked : IsChecked code) (written : 
             ∙ ap (λ b. option_and_then (offered s u k) (if b then Some o else None)) x.meeting
             ∙ ap (λ b. if b then None else Some (attended s u (record k { offer = Standing o }))) none
 
-    -- neither the receiver nor the sender has to acknowledge
+    -- the acknowledgement of goroutine w leaves the receiver and the sender as they were, since neither of them has to acknowledge
     apart_from : (s : RegionState) (w : ℕ) (q : Holder) (p : ℕ) → slice_get s.holders w ≡ Some q → q.offer ≡ Taken p
         → (j : ℕ) (y : Holder) → slice_get s.holders j ≡ Some y → may_go y.offer ≡ true
         → slice_get (slice_set s.holders w (record q { offer = NoOffer })) j ≡ Some y
@@ -898,7 +905,8 @@ module _ (code : Code) (page_words : ℕ) (checked : IsChecked code) (written : 
         same u' = true≢false (sym my ∙ ap (λ (v : Holder). may_go v.offer)
             (same_Some y q (sym ey ∙ ap (slice_get s.holders) (sym u') ∙ e)) ∙ ap may_go z)
 
-    -- somebody offers there, or somebody's offer there has to be acknowledged first
+    -- An offer is at the channel. If it is open, the receiver meets that sender, whoever it is: this is why the law allows another
+    -- sender. If it was taken, it is acknowledged, and `again` continues from there.
     by_find : (s : RegionState) (h k : Holder) → AtChannel s h → Sends s k
         → ((w : ℕ) (q : Holder) (p : ℕ) → slice_get s.holders w ≡ Some q → q.offer ≡ Taken p
         → AtChannel (attended s w (record q { offer = NoOffer })) h
@@ -928,7 +936,7 @@ module _ (code : Code) (page_words : ℕ) (checked : IsChecked code) (written : 
                 clash : (a b : Option ℕ) (vs ws rs qs : List ℕ) → Do a Send vs rs ≡ Do b Recv ws qs → ⊥
                 clash a b vs ws rs qs e = cc
 
-                -- a receiver does not offer
+                -- the offer is not the receiver's own: its next instruction is a receive
                 not_receiver : r ≡ w → ⊥
                 not_receiver same =
                     let st : StandsAtSend code s.plain r o = subst (λ i. StandsAtSend code s.plain i o) (sym same)
@@ -954,7 +962,7 @@ module _ (code : Code) (page_words : ℕ) (checked : IsChecked code) (written : 
                     ≡ Some (attended s w (record q { offer = NoOffer }))
                 step = acknowledges code page_words checked written (Meet r u) s w q p x.good e z
 
-    -- one that has to acknowledge fewer
+    -- after an acknowledgement one goroutine fewer has to acknowledge
     fewer : (s : RegionState) (w : ℕ) (q : Holder) (p : ℕ) → slice_get s.holders w ≡ Some q → q.offer ≡ Taken p
         → total is_taken (slice_set s.holders w (record q { offer = NoOffer })) + 1 ≡ total is_taken s.holders
     fewer s w q p e z =

@@ -1,4 +1,5 @@
--- What holds at the start of a run and is kept by each step holds after the run.
+-- A property that each step keeps holds after a run if it holds at its start. With this lemma a law on every run, and so on every
+-- schedule, is a law on one step.
 use Rattle.std.proofs.Common.{◌≡◌, ℕ, List, [], ◌∷◌, Option, Some, None, subst, option_and_then}
 use Rattle.std.proofs.lemmas.Option.{same_Some}
 use Rattle.rgo_sound.proofs.plain.Steps.{Yields}

@@ -1,4 +1,5 @@
--- The law of safety, from its parts.
+-- The law of safety, from its parts. The invariant holds in every state of a run (`runs_are_good`), and most of safety is read off from
+-- it at one state. Only the bounds on pages and regions need the run itself: they have invariants of their own.
 use Rattle.rgo_sound.proofs.names.Stakes.{all_removed, one_holding_name, stakes_counted}
 use Rattle.rgo_sound.proofs.counts.Regions.{regions_always}
 use Rattle.rgo_sound.proofs.offers.Offers.{runs_are_good}

@@ -1,4 +1,4 @@
--- Tests of numbers and of truth values: what they say of each other.
+-- Facts about truth values and about tests on numbers.
 use Rattle.std.proofs.Common.{◌≡◌, ℕ, Bool, true, false, ◌&&◌, ◌||◌, refl, sym, nat_eq, arith, true≢false}
 use Rattle.rgo_sound.specs.Stakes.{one_when}
 
@@ -9,7 +9,7 @@ and_third true true false d q = q
 and_third true false c d q = absurd (true≢false (sym q))
 and_third false b c d q = absurd (true≢false (sym q))
 
--- nothing is counted where the second test is false
+-- nothing is counted if the second test is false
 pub none_if : (b : Bool) → one_when (b && false) ≡ 0
 none_if true = refl
 none_if false = refl
@@ -23,7 +23,7 @@ nat_ne_sym a b h = grind arith
 pub eq_of : (a b : ℕ) → nat_eq a b ≡ true → a ≡ b
 eq_of a b e = grind arith
 
--- by cases on a test, with what it says
+-- case analysis on a test, with the equation of each case at hand
 pub split : {A : Type 0} (b : Bool) → (b ≡ true → A) → (b ≡ false → A) → A
 split true f g = f refl
 split false f g = g refl

@@ -1,4 +1,4 @@
--- Who takes part in an event, what it leaves, and states that it cannot have left.
+-- Examples for Leaving, Owners and Running: who takes part in an event, what it leaves, and states in which the laws would fail.
 use Rattle.std.specs.Prelude.{ℕ, [], ◌∷◌, Some}
 use Rattle.rgo_code.specs.Code.{Code}
 use Rattle.rgo_machine.specs.declared.picks.End.TheVariants.{Exit}
@@ -11,7 +11,7 @@ use Rattle.rgo_sound.specs.Leaving.{ActsAlone, LeavesOthers, TakesPart}
 use Rattle.rgo_sound.specs.Owners.{OwnersMade}
 use Rattle.rgo_sound.specs.Running.{IsRunning}
 
--- the first state without its goroutine's holder, with the owner of an object, and at an end
+-- the first state, each time with one thing wrong: no holder for its goroutine, an owner that was never created, a plain part at its end
 abbrev pub without_holder : Code → RegionState
 without_holder code = record (region_start code) { holders = [] }
 
@@ -27,7 +27,7 @@ pub record StepExamples (code : Code) : Type 0 where
   pub nobody : (j : ℕ) → TakesPart (Finish limit.Memory) j → ⊥
   pub alone : ActsAlone (TakePage 2) 2
   pub together : ActsAlone (Instruct (Meet 0 1)) 0 → ⊥
-  -- the goroutine itself may change, and no other one
+  -- the goroutine that takes part may change, and no other one
   pub changes : LeavesOthers (region_start code) (without_holder code) (Attend 0)
   pub loses : LeavesOthers (region_start code) (without_holder code) (Attend 5) → ⊥
   pub made : OwnersMade (region_start code)

@@ -1,4 +1,5 @@
--- What an event leaves as it was: the frames and the holders of goroutines that take no part in it, and most offers.
+-- What an event leaves as it was: the frames and the holders of goroutines that take no part in it, and most offers. The proof of
+-- the table needs it: there each goroutine's part is in words that only its own turn writes.
 use Rattle.std.specs.Prelude.{◌≡◌, ◌⊎◌, ℕ, List, Some, slice_get}
 use Rattle.rgo_code.specs.Code.{Code}
 use Rattle.rgo_machine.specs.declared.picks.Pick.TheVariants.{Meet, One}
@@ -17,7 +18,7 @@ TakesPart (MakeOffer g) j = j ≡ g
 TakesPart (Acknowledge g) j = j ≡ g
 TakesPart (Finish limit) j = ⊥
 
--- from s to t no other goroutine has changed
+-- from s to t no goroutine has changed that takes no part in the event; new ones may have been added
 pub record LeavesOthers (s t : RegionState) (event : Event) : Type 0 where
   pub frames : (j : ℕ) (frames : List TacFrame) → (TakesPart event j → ⊥) → slice_get s.plain.goroutines j ≡ Some frames
       → slice_get t.plain.goroutines j ≡ Some frames
@@ -39,7 +40,7 @@ ActsAlone (MakeOffer g) j = ⊥
 ActsAlone (Acknowledge g) j = ⊥
 ActsAlone (Finish limit) j = ⊥
 
--- such a step leaves the goroutine's offer
+-- such a step leaves the goroutine's offer as it was
 abbrev pub OffersStay : Type 0
 OffersStay = (code : Code) (page_words : ℕ) (s t : RegionState) (event : Event) (g : ℕ) (h : Holder)
     → region_step code page_words s event ≡ Some t → ActsAlone event g → slice_get s.holders g ≡ Some h

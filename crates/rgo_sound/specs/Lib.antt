@@ -1,4 +1,4 @@
--- of the crates below, for those above
+-- definitions of the crates below that the crates above name
 pub use Rattle.rgo_ast.specs as Ast
 pub use Rattle.rgo_code.specs as Code
 pub use Rattle.rgo_flow.specs as Flow

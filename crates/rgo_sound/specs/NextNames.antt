@@ -1,4 +1,5 @@
--- What a goroutine names next is live, with a stake of its own.
+-- What a goroutine names next is live, with a stake of its own. The stake matters as much as being live: a region that only others
+-- keep could be removed by them before the step is taken.
 use Rattle.std.specs.Prelude.{Contains, List, Some, [], slice_get, true, ℕ, ◌∷◌, ◌≡◌, ◌⊎◌}
 use Rattle.rgo_code.specs.Checked.{IsChecked}
 use Rattle.rgo_code.specs.Code.{Code, CodeInstr}
@@ -13,7 +14,7 @@ use Rattle.rgo_region_machine.specs.declared.regions.Region.{Region}
 use Rattle.rgo_region_machine.specs.declared.regions.Region.TheVariants.{Global as GlobalRegion, Numbered}
 use Rattle.rgo_tac.specs.Frames.{TacFrame}
 
--- a duty names a region
+-- a duty names a region; a creation names none, since the region does not exist yet
 abbrev pub DutyNames : Holder → Duty → Region → Type 0
 DutyNames h (Create k) r = ⊥
 DutyNames h (Share k) r = bound (top_names h.environments) k ≡ Some r
@@ -30,8 +31,8 @@ InstructionNames code s h (frame ∷ callers) r =
     × ((making_region (function_at code frame) (top_names h.environments) i.op ≡ Some r)
     ⊎ ((o : ℕ) × (touched frame i.op ≡ Some o) × (slice_get s.owners o ≡ Some r)))
 
--- The goroutine's next step names the region: its acknowledgement, its first duty, or its instruction. An offer that was
--- taken is acknowledged before the duties, which are named as well.
+-- The goroutine's next step names the region: its acknowledgement, its first duty, or its instruction. While an offer has to be
+-- acknowledged, the first duty is not next, but its region counts as well: the law is stronger for it.
 abbrev pub NextNames : Code → RegionState → ℕ → Holder → List Duty → Offer → Region → Type 0
 NextNames code s g h (duty ∷ duties) (Taken o) r = (slice_get s.owners o ≡ Some r) ⊎ DutyNames h duty r
 NextNames code s g h [] (Taken o) r = slice_get s.owners o ≡ Some r

@@ -1,4 +1,5 @@
--- What holds of the offers of goroutines.
+-- The invariant about offers. An acknowledgement touches a channel without naming it: the sender's variable may be gone from the
+-- code by then. So what keeps the channel live has to be remembered from the meeting on.
 use Rattle.std.specs.Prelude.{List, None, Option, Some, [], slice_get, true, ℕ, ◌∷◌, ◌≡◌}
 use Rattle.rgo_code.specs.Code.{Code, CodeInstr, Do}
 use Rattle.rgo_memory.specs.Memory.{Channel, Memory, Object, SliceObject, StructObject}
@@ -17,11 +18,11 @@ channel_capacity (StructObject cells) = None
 channel_capacity (SliceObject cells) = None
 channel_capacity (Channel capacity queue closed) = Some capacity
 
--- the object is a channel without a buffer; it stays one
+-- the object is a channel without a buffer; no step makes it anything else
 abbrev pub IsUnbuffered : Memory → ℕ → Type 0
 IsUnbuffered m o = (object : Object) × (slice_get m.heap o ≡ Some object) × (channel_capacity object ≡ Some 0)
 
--- the goroutine is to send on this channel
+-- the goroutine's next instruction is a send on this channel
 pub record StandsAtSend (code : Code) (p : TacState) (g o : ℕ) : Type 0 where
   pub frame : TacFrame
   pub callers : List TacFrame
@@ -35,8 +36,9 @@ pub record StandsAtSend (code : Code) (p : TacState) (g o : ℕ) : Type 0 where
   pub is : instr.op ≡ Do to Send (channel ∷ sent ∷ []) removes
   pub channel_is : value_at frame channel ≡ value.Object o
 
--- an open offer belongs to the send that is its goroutine's next instruction, and the goroutine owes nothing; the channel of
--- one that was taken is in a region in which the goroutine has a stake
+-- An open offer belongs to the send that is its goroutine's next instruction, and the goroutine owes nothing: so a meeting finds the
+-- sender ready. The channel of an offer that was taken is in Global or in a region in which the goroutine has a stake; the sender
+-- does nothing before its acknowledgement, so the stake is still there.
 abbrev pub OfferFits : Code → RegionState → ℕ → Holder → Offer → Type 0
 OfferFits code s g h NoOffer = Unit {0}
 OfferFits code s g h (Standing o) = (h.duties ≡ []) × IsUnbuffered s.plain.memory o × StandsAtSend code s.plain g o

@@ -1,4 +1,5 @@
--- No step is missing: each step of the three-address machine can be done after some region steps.
+-- No step is missing: each step of the three-address machine can be done after some region steps. Without this law the tests of the
+-- region machine could be met by doing nothing at all.
 use Rattle.std.specs.Prelude.{IsSome, List, Some, [], ℕ, ◌∷◌, ◌≡◌}
 use Rattle.rgo_code.specs.Checked.{IsChecked}
 use Rattle.rgo_code.specs.Code.{Code}
@@ -12,7 +13,7 @@ use Rattle.rgo_region_machine.specs.Room.{MakesTooLarge}
 use Rattle.rgo_region_machine.specs.States.{RegionState}
 use Rattle.rgo_tac.specs.Tac.{TacState, tac_step}
 
--- no instruction and no end
+-- neither an instruction nor an end, so the three-address machine does not notice it
 abbrev pub IsRegionStep : Event → Type 0
 IsRegionStep (Instruct pick) = ⊥
 IsRegionStep (Finish end) = ⊥
@@ -25,12 +26,14 @@ abbrev pub AreRegionSteps : List Event → Type 0
 AreRegionSteps [] = Unit {0}
 AreRegionSteps (event ∷ events) = IsRegionStep event × AreRegionSteps events
 
--- a pick of the same kind: the same goroutine, or a meeting of the same receiver, perhaps with another sender
+-- A pick of the same kind: the same goroutine, or a meeting of the same receiver. The sender may be another one, since a channel has
+-- one offer at a time, and another sender's may be there already.
 abbrev pub IsLike : Pick → Pick → Type 0
 IsLike (One g) pick = pick ≡ One g
 IsLike (Meet r t) pick = (u : ℕ) × (pick ≡ Meet r u)
 
--- after some region steps, an instruction like the pick can be done
+-- After some region steps, an instruction like the pick can be done. The steps may be those of several goroutines: both sides of a
+-- meeting must be ready.
 pub record CanInstruct (code : Code) (page_words : ℕ) (s : RegionState) (like : Pick) : Type 0 where
   pub pick : Pick
   pub is_like : IsLike like pick
@@ -40,7 +43,8 @@ pub record CanInstruct (code : Code) (page_words : ℕ) (s : RegionState) (like 
   pub leads : Leads (region_step code page_words) s before ready
   pub steps : IsSome (region_step code page_words ready (Instruct pick))
 
--- checked code never gets stuck on a region
+-- Checked code never gets stuck on a region. The only step that is excluded makes an object of too many data pages, and a run that
+-- comes to one ends with a limit of its own.
 abbrev pub NoStepMissing : Type 0
 NoStepMissing =
     (code : Code) (page_words : ℕ) (events : List Event) (s : RegionState) (pick : Pick) (next : TacState) →

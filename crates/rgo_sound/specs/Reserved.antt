@@ -1,4 +1,5 @@
--- Reserved pages are for the spread object that their goroutine makes next, and it has no more of them than it needs.
+-- Reserved pages are for the spread object that their goroutine makes next, and it has no more of them than it needs. The machine
+-- counts reserved pages without saying for which object. This law makes the count enough: no other object can come between.
 use Rattle.std.specs.Prelude.{List, Some, [], false, slice_get, true, ℕ, ◌<◌, ◌≡◌, ◌≤◌}
 use Rattle.rgo_code.specs.Checked.{IsChecked}
 use Rattle.rgo_code.specs.Code.{Code}
@@ -18,7 +19,7 @@ pub record IsReserved (code : Code) (page_words : ℕ) (s : RegionState) (g : �
   pub small : is_too_large page_words object ≡ false
   pub within : h.reserved ≤ pages_of page_words object
 
--- so pages are reserved in every state of a run, if any are
+-- this holds in every state of a run in which the goroutine has reserved pages
 abbrev pub ReservedForNext : Type 0
 ReservedForNext =
     (code : Code) (page_words : ℕ) (events : List Event) (s : RegionState) (g : ℕ) (h : Holder) →

@@ -1,4 +1,5 @@
--- What each step adds to the counts of a run.
+-- What each step adds to the counts of a run. Goroutines count their own steps, each on its own, and nobody looks at the whole
+-- state; by this law the sum of their counts is the machine's.
 use Rattle.std.specs.Prelude.{List, None, Option, Some, [], if◌then◌else◌, length, nat_eq, slice_get, ℕ, ◌+◌, ◌-◌, ◌∷◌}
 use Rattle.std.specs.Prelude.{◌≡◌}
 use Rattle.rgo_code.specs.Code.{Code}
@@ -28,7 +29,7 @@ counts_plus a b =
 abbrev pub no_share : Counts
 no_share = record { made = 0; removed = 0; taken = 0; returned = 0; steps = 0; objects = 0; goroutines = 0 }
 
--- the end of a stake: the region is removed with its pages if it was the last
+-- the end of a stake: if it was the last one, the region is removed and its pages are returned
 abbrev pub share_of_last : Option RegionInfo → Counts
 share_of_last None = no_share
 share_of_last (Some info) = if nat_eq info.stakes 1 then record no_share { removed = 1; returned = info.pages } else
@@ -43,7 +44,7 @@ abbrev pub share_of_named : RegionState → Holder → Option Region → Counts
 share_of_named s h None = no_share
 share_of_named s h (Some r) = share_of_removal s h r
 
--- h has the other duties left
+-- what a duty adds; h has the other duties left, as where the machine does it
 abbrev pub share_of_duty : RegionState → Holder → Duty → Counts
 share_of_duty s h (Create k) = record no_share { made = 1 }
 share_of_duty s h (Share k) = no_share
@@ -62,7 +63,7 @@ abbrev pub share_of_holder : RegionState → Option Holder → Counts
 share_of_holder s None = no_share
 share_of_holder s (Some h) = share_of_first s h h.duties
 
--- an instruction: what the plain machine made
+-- an instruction: what the three-address machine made
 abbrev pub share_of_plain : RegionState → Option TacState → Counts
 share_of_plain s None = no_share
 share_of_plain s (Some next) = record no_share {
@@ -82,7 +83,7 @@ share_of code s (MakeOffer g) = no_share
 share_of code s (Acknowledge g) = no_share
 share_of code s (Finish end) = no_share
 
--- the counts of a run are those of its start and the shares of its steps, whatever the code
+-- the counts after a step are those before it and its share, whatever the code
 abbrev pub TallyAdds : Type 0
 TallyAdds = (code : Code) (page_words : ℕ) (s t : RegionState) (event : Event) → region_step code page_words s event
     ≡ Some t → counts_of t ≡ counts_plus (counts_of s) (share_of code s event)

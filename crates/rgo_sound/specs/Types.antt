@@ -1,4 +1,5 @@
--- Every value of a run of the three-address code has the type of its variable or of its cell.
+-- Every value of a run of the three-address machine has the type of its variable or of its cell. The machine has no types at run
+-- time. The part of the invariant on pointers uses this once: a variable with a pointer has a pointer-like type, and so a class.
 use Rattle.std.specs.Prelude.{List, Some, [], length, map, slice_get, true, ℕ, ◌∷◌, ◌≡◌}
 use Rattle.rgo_code.specs.Checked.{IsChecked}
 use Rattle.rgo_code.specs.Code.{Call, Code, CodeFn, CodeInstr, CodeOp, Do, Go, Print, Jump, Branch, Return}
@@ -17,12 +18,12 @@ use Rattle.rgo_typed.specs.declared.types.Type.{«Type»}
 use Rattle.rgo_wellformed.specs.TypeRules.{bool, chan_of, int, pointer_to, slice_of}
 use Rattle.rgo_memory.specs.declared.values.Value.TheVariants as value
 
--- each of a list
+-- P holds of each element of a list
 abbrev pub Each : {X : Type 0} → (X → Type 0) → List X → Type 0
 Each P [] = Unit {0}
 Each P (x ∷ xs) = P x × Each P xs
 
--- kinds: the type of a pointer to each object
+-- `kinds` is the type of a pointer to each object, chosen when the object is made: a struct's cells alone do not show its type
 abbrev pub HasKind : List «Type» → «Type» → Value → Type 0
 HasKind kinds ty (value.Int i) = ty ≡ int
 HasKind kinds ty (value.Bool b) = ty ≡ bool
@@ -35,7 +36,7 @@ HaveKinds kinds [] (v ∷ vs) = ⊥
 HaveKinds kinds (ty ∷ tys) [] = ⊥
 HaveKinds kinds (ty ∷ tys) (v ∷ vs) = HasKind kinds ty v × HaveKinds kinds tys vs
 
--- what is in an object has its type
+-- the contents of an object have the types that its own type asks for
 abbrev pub ObjectFits : List Struct → List «Type» → «Type» → Object → Type 0
 ObjectFits structs kinds ty (StructObject cells) =
     (n : ℕ) × (ty ≡ pointer_to n) × (s : Struct) × (slice_get structs n ≡ Some s) × HaveKinds kinds s.fields cells
@@ -44,7 +45,7 @@ ObjectFits structs kinds ty (SliceObject cells) =
 ObjectFits structs kinds ty (Channel capacity queue closed) =
     (e : «Type») × (ty ≡ chan_of e) × Each (HasKind kinds e) queue
 
--- each object and each package variable fits
+-- each object and each package variable fits its type
 pub record MemoryFits (code : Code) (kinds : List «Type») (m : Memory) : Type 0 where
   pub objects : (o : ℕ) (object : Object) → slice_get m.heap o ≡ Some object
       → (ty : «Type») × (slice_get kinds o ≡ Some ty) × ObjectFits code.structs kinds ty object
@@ -56,7 +57,7 @@ abbrev pub FrameFits : Code → List «Type» → TacFrame → Type 0
 FrameFits code kinds frame = (fn : CodeFn) × (function_at code frame ≡ Some fn)
     × HaveKinds kinds (erased_fn fn).variables frame.variables
 
--- a caller waits at its call of the function above it
+-- A caller waits at its call of the function above it, so the value that comes back has the type of the variable that waits for it.
 abbrev pub IsCallOf : Code → CodeOp → CodeFn → Type 0
 IsCallOf code (Call to n from passes protects removes) fn = code_function code n ≡ Some fn
 IsCallOf code (Do to action from removes) fn = ⊥

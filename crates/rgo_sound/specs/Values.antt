@@ -1,4 +1,5 @@
--- The invariant of region runs of checked code: where pointers lead.
+-- The invariant of region runs of checked code: where pointers lead. Variables that are not live are left out: their classes may
+-- name regions that were removed, and the rules allow that because nobody reads them again.
 use Rattle.std.specs.Prelude.{List, None, Option, Some, [], length, slice_get, ℕ, ◌+◌, ◌∷◌, ◌≡◌, ◌≢◌}
 use Rattle.rgo_code.specs.Code.{Call, Code, CodeFn, CodeInstr, CodeOp, Do, Go, Print, Jump, Branch, Return}
 use Rattle.rgo_code.specs.Erasure.{erased_fn}
@@ -18,7 +19,7 @@ use Rattle.rgo_tac.specs.declared.regions.Class.{Class}
 use Rattle.rgo_tac.specs.declared.regions.Class.TheVariants.{NoClass}
 use Rattle.rgo_memory.specs.declared.values.Value.TheVariants as value
 
--- a pointer leads into the region
+-- a pointer leads into the region; a value that is not a pointer leads everywhere
 abbrev pub LeadsInto : List Region → Region → Value → Type 0
 LeadsInto owners r (value.Int i) = Unit {0}
 LeadsInto owners r (value.Bool b) = Unit {0}
@@ -33,7 +34,8 @@ LeadsHome owners names class value.Nil = Unit {0}
 LeadsHome owners names class (value.Object o) = (r : Region) × (class_region names class ≡ Some r)
     × (slice_get owners o ≡ Some r)
 
--- what the objects of a region hold stays there, whether it is live or not; what package variables hold is Global
+-- What the objects of a region hold stays there, whether the region is live or not: so a removal needs no proof, since it changes
+-- no owner and no cell. What package variables hold is in Global.
 pub record MemoryHome (owners : List Region) (m : Memory) : Type 0 where
   pub owned : length owners ≡ length m.heap
   pub cells : (o : ℕ) (object : Object) (r : Region) → slice_get m.heap o ≡ Some object → slice_get owners o ≡ Some r
@@ -50,19 +52,19 @@ call_target (Jump target removes) = None
 call_target (Branch test target removes other otherwise) = None
 call_target (Return value) = None
 
--- of the top frame: what is live into its instruction
+-- of the newest frame: what is live before its instruction
 abbrev pub TopLeads : Code → List Region → TacFrame → Bindings → Type 0
 TopLeads code owners frame names = (fn : CodeFn) → function_at code frame ≡ Some fn → (v : ℕ)
     → Live (erased_fn fn) v frame.next → LeadsHome owners names (class_of fn v) (value_at frame v)
 
--- of a caller: what is live after its call, except the call's own target
+-- of a caller: what is live after its call, except the call's own target, which gets its value only at the return
 abbrev pub CallerLeads : Code → List Region → TacFrame → Bindings → Type 0
 CallerLeads code owners frame names =
     (fn : CodeFn) (call : CodeInstr) → function_at code frame ≡ Some fn → current code frame ≡ Some call → (v : ℕ)
     → call_target call.op ≢ Some v → Live (erased_fn fn) v (frame.next + 1) →
     LeadsHome owners names (class_of fn v) (value_at frame v)
 
--- what is lent for a result is the region of the variable that waits for it
+-- what is lent for a result is the region of the variable that waits for it, so the returned pointer leads home there
 abbrev pub IsLinked : Code → RegionEnvironment → TacFrame → RegionEnvironment → Type 0
 IsLinked code f caller d =
     (fn : CodeFn) (call : CodeInstr) (to : ℕ) → function_at code caller ≡ Some fn → current code caller ≡ Some call

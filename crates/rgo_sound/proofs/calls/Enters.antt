@@ -1,4 +1,5 @@
--- A call: the callee's entry, and the caller that waits.
+-- A call: the callee's entry, and the caller that waits. The rules speak of names, and the machine passes regions by position;
+-- `CallIsRight` is where the two agree, and both halves of the proof start from it.
 use Rattle.std.proofs.Common.{◌≡◌, ◌≢◌, ℕ, zero, suc, ◌≤◌, ◌<◌, Bool, true, false, ◌||◌, List, [], ◌∷◌, ◌++◌, map}
 use Rattle.std.proofs.Common.{length, Option, Some, None, refl, sym, ap, ◌∙◌, subst, nat_eq, if◌then◌else◌, arith, ◌⊎◌}
 use Rattle.std.proofs.Common.{inl, inr, true≢false, Contains, ◌↔◌}
@@ -35,15 +36,15 @@ use Rattle.rgo_tac.specs.declared.regions.Class.TheVariants.{Global, Name, NoCla
 abbrev pub IsParameter : CodeFn → ℕ → Type 0
 IsParameter fn k = (i : ℕ) × (i < fn.params) × (class_of fn i ≡ Name k)
 
--- as the rules say it
+-- the same in the words of the rules
 pub is_parameter : (fn : CodeFn) (k : ℕ) → IsParameterName fn k → IsParameter fn k
 is_parameter fn k c = parameter_member fn.params fn.variables (Name k) c
 
 pub parameter_name : (fn : CodeFn) (k : ℕ) → IsParameter fn k → IsParameterName fn k
 parameter_name fn k (i, below, is) = parameter_listed fn.params fn.variables i k below is
 
--- What is owed at the entry of a called function can be done: its removals, and what its first instruction wants. Its
--- parameters and its result stand for regions, and no other name of its own does.
+-- What is owed at the entry of a called function can be done: its removals, and what its first instruction needs. It is enough that its
+-- parameters and its result denote regions and that no other name does, so callers of all kinds, and `go`, share this lemma.
 pub enters : (code : Code) (fn : CodeFn) (next : CodeInstr) (names : Bindings) → Kept code fn 0 next
     → EntryRemovesDead fn → EntryIsKnown fn → AreDistinct fn.entry → ((k : ℕ) → IsParameter fn k → bound names k ≢ None)
     → ((k : ℕ) → result_class fn ≡ Name k → bound names k ≢ None)
@@ -90,7 +91,7 @@ enters code fn next names b e known d there lent gone =
 
 -- ---- what a callee's names are
 
--- each formal stands for a region
+-- each formal denotes a region
 pub passed_bound : (names : Bindings) (formals regions : List Class) (k : ℕ) → AreFormals formals
     → ArePassable names regions → length regions ≡ length formals → list_any (is_class_named k) formals ≡ true
     → bound (passed formals (passed_regions names regions)) k ≢ None
@@ -133,7 +134,7 @@ passed_bound names (Name i ∷ formals) (c ∷ regions) k f p l e =
 passed_bound names (Global ∷ formals) regions k f p l e = absurd f
 passed_bound names (NoClass ∷ formals) regions k f p l e = absurd f
 
--- the facts of the rules on the lists of one call, about which callee and caller agree
+-- what the rules say of the lists of one call, in the form that the callee's entry and the waiting caller both need
 pub record CallIsRight (code : Code) (callee : CodeFn) (call : CodeInstr) (passes : List Class) (protects : List ℕ) :
     Type 0 where
   pub formals : (k : ℕ) → (list_any (is_class_named k) (region_parameters callee) ≡ true) ↔
@@ -144,7 +145,7 @@ pub record CallIsRight (code : Code) (callee : CodeFn) (call : CodeInstr) (passe
   pub kept : (k : ℕ) → Contains protects k → times_in k (given_names (result_class callee) (region_parameters callee)
       passes protects) ≡ 0
 
--- the goroutine behind a call: the callee enters, and the caller waits
+-- the goroutine after a call: the callee is at its entry, and the caller waits
 pub calls_on : (code : Code) (fn callee : CodeFn) (frame entered : TacFrame) (callers : List TacFrame) (call next : CodeInstr)
     (to : Option ℕ) (n : ℕ) (from : List ℕ) (passes : List Class) (protects removes : List ℕ) (h : Holder)
     (f : RegionEnvironment) (fs : List RegionEnvironment) →

@@ -1,4 +1,5 @@
--- The lists of a call, from the rules.
+-- The lists of a call, from the rules. The rules define which names a call gives; the machine computes a list from positions. That
+-- these are the same names (`gives_are`) is proved once, here.
 use Rattle.std.proofs.Common.{◌≡◌, ◌≢◌, ℕ, zero, suc, ◌+◌, ◌≤◌, Bool, true, false, ◌||◌, List, [], ◌∷◌, ◌++◌, length}
 use Rattle.std.proofs.Common.{Option, Some, refl, sym, ap, ◌∙◌, subst, nat_eq, if◌then◌else◌, arith, ◌⊎◌, inl, inr, ◌↔◌}
 use Rattle.std.proofs.Common.{true≢false, slice_get, Contains}
@@ -46,7 +47,7 @@ not_again seen (Name j ∷ cs) k e = go (list_any (is_class_named j) seen) refl 
         (sym e ∙ ap (λ x. list_any (is_class_named x) seen) (eq_of k j t) ∙ q)))
         (λ n. ap (λ x. x || list_any (is_class_named k) (distinct_names (Name j ∷ seen) cs)) n ∙ two)
 
--- what is listed are names, each once
+-- the listed classes are names, each once
 are_formals : (seen cs : List Class) → AreFormals (distinct_names seen cs)
 are_formals seen [] = tt
 are_formals seen (NoClass ∷ cs) = are_formals seen cs
@@ -203,7 +204,7 @@ module _ (lent : Class) (protects : List ℕ) where
   given_from (c ∷ formals) (NoClass ∷ regions) k h = let x = given_from formals regions k h in
       (suc x.0, x.1, x.2, x.3, x.4)
 
--- what a call leaves to its callee by the rules, and what the machine leaves to it, are the same
+-- the names that a call gives by the rules are those that the machine takes from the caller
 pub gives_are : (code : Code) (fn g : CodeFn) (i : ℕ) (to : Option ℕ) (n : ℕ) (from : List ℕ) (passes : List Class)
     (protects removes : List ℕ) (names : Bindings) → code_function code n ≡ Some g → length passes
     ≡ length (region_parameters g) → ProtectsUsed fn i (Call to n from passes protects removes) → (k : ℕ)

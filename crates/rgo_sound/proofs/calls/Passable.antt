@@ -1,4 +1,5 @@
--- What a call passes has a region.
+-- What a call passes has a region. A name that is passed is bound, since the call names it. That a class is passed at all follows from
+-- types: the argument has the type of its parameter, and by rule 3 a variable of such a type has a class.
 use Rattle.std.proofs.Common.{◌≡◌, ◌≢◌, ℕ, zero, suc, ◌<◌, List, [], ◌∷◌, ◌++◌, length, Option, Some, None, is_some}
 use Rattle.std.proofs.Common.{refl, sym, ap, ◌∙◌, subst, arith, ◌⊎◌, inl, inr, true≢false, slice_get, Contains}
 use Rattle.std.proofs.Common.{option_map}
@@ -59,7 +60,7 @@ argument_fits fn g from i v formal fit below at is =
 
 -- ---- what has a region
 
--- Global, or a name that stands for a region
+-- Global, or a name that denotes a region
 abbrev IsThere : Bindings → Class → Type 0
 IsThere names c = (c ≡ Global) ⊎ ((k : ℕ) × (c ≡ Name k) × (bound names k ≢ None))
 
@@ -92,7 +93,7 @@ same_kind s t m fs ft c k = ft.1 (ap is_pointer_like k ∙ fs.0 (λ n. clash n))
     clash : s.class ≡ NoClass → ⊥
     clash n = let x : NoClass ≡ Name m = sym n ∙ c in cc
 
--- a class is there if it is one, and its name, if it has one, is bound
+-- a class other than NoClass has a region, if its name is bound
 classified : (names : Bindings) (c : Class) → c ≢ NoClass → ((k : ℕ) → c ≡ Name k → bound names k ≢ None)
     → IsThere names c
 classified names NoClass n h = absurd (n refl)

@@ -1,4 +1,8 @@
--- A call passes its regions on: what the callee is given, and what is left to the caller.
+-- A call passes its regions on: what the callee receives, and what the caller keeps.
+-- The count of holding names must come out the same. For a region that nobody protects, each name that the caller gives becomes one
+-- holding name of the callee (`received`), so the sum over both frames stays (`conserved`). For a region that this call is the first to
+-- protect, the caller gives no name, and the callee's names are above the protection and not counted (`guarded`). The difficulty is
+-- that names are passed by position and counted by region.
 use Rattle.std.proofs.Common.{◌≡◌, ◌≢◌, ℕ, zero, suc, ◌+◌, ◌≤◌, Bool, true, false, not, ◌&&◌, ◌||◌, List, [], ◌∷◌}
 use Rattle.std.proofs.Common.{Option, Some, None, refl, sym, ap, ◌∙◌, subst, nat_eq, if◌then◌else◌, arith, ◌⊎◌, inl}
 use Rattle.std.proofs.Common.{inr, true≢false}
@@ -42,12 +46,13 @@ abbrev pub times_named : ℕ → List Class → ℕ
 times_named k [] = 0
 times_named k (c ∷ cs) = one_when (is_class_named k c) + times_named k cs
 
--- what is asked of the lists of a call, by the rules on calls and on protections
+-- what the rules on calls and on protections ask of the lists of a call
 pub record CallFits (mine lent : Class) (names : Bindings) (formals regions : List Class) (protects : List ℕ) : Type 0
   where
     pub formals_fit : AreFormals formals
     pub passable : ArePassable names regions
-    -- what stands twice is protected, and so is the caller's own result
+    -- what is passed twice is protected, and so is the name of the caller's own result, which is not a holding name: a callee must not
+    -- remove either
     pub twice : (k : ℕ) → list_any (nat_eq k) protects ≡ false → times_named k regions ≤ 1
     pub own : (k : ℕ) → list_any (nat_eq k) protects ≡ false → 1 ≤ times_named k regions → is_mine mine k ≡ true
 
@@ -60,9 +65,9 @@ module _ (names : Bindings) (lent : Class) (protects : List ℕ) where
   abbrev pub to_callee : List Class → List Class → Bindings
   to_callee formals regions = passed formals (passed_regions names regions)
 
-  -- ---- what the callee's names stand for
+  -- ---- what the callee's names denote
 
-  -- a region that a callee knows is one that the caller knows
+  -- a region that a name of the callee denotes is one that a name of the caller denotes
   pub came : (formals regions : List Class) (j q : ℕ) → bound (to_callee formals regions) j ≡ Some (Numbered q)
       → (k : ℕ) × (bound names k ≡ Some (Numbered q))
   came [] regions j q e = cc
@@ -123,7 +128,7 @@ module _ (names : Bindings) (lent : Class) (protects : List ℕ) where
   passed_unique (Global ∷ formals) regions f = absurd f
   passed_unique (NoClass ∷ formals) regions f = absurd f
 
-  -- ---- what is given is as much as is received
+  -- ---- as many names are given as are received
 
   -- the callee's own names for an unprotected region are as many as the names for it that are given
   pub received : (r : ℕ) (formals regions : List Class) → AreFormals formals → ArePassable names regions
@@ -206,7 +211,7 @@ module _ (names : Bindings) (lent : Class) (protects : List ℕ) where
   given_free (c ∷ formals) (Global ∷ regions) k h = given_free formals regions k h
   given_free (c ∷ formals) (NoClass ∷ regions) k h = given_free formals regions k h
 
-  -- what stands for the callee's result is passed once more than it is given
+  -- the name that is passed for the callee's result is given at least once less than it is passed, so the caller keeps it
   pub lent_at : (formals regions : List Class) (m r : ℕ) → lent ≡ Name m → AreFormals formals
       → bound (to_callee formals regions) m ≡ Some (Numbered r) → (k : ℕ) × (bound names k ≡ Some (Numbered r))
       × (suc (times_in k (given formals regions)) ≤ times_named k regions)
@@ -268,7 +273,7 @@ module _ (names : Bindings) (lent : Class) (protects : List ℕ) where
 
 -- ---- what is left to the caller
 
--- what is not given stands for what it stood for
+-- a name that is not given denotes what it denoted
 pub left_other : (ks : List ℕ) (names : Bindings) (j : ℕ) → times_in j ks ≡ 0 → bound (without_all names ks) j
     ≡ bound names j
 left_other [] names j z = refl
@@ -280,14 +285,14 @@ left_other (k ∷ ks) names j z = go (nat_eq j k) refl z (λ z'. left_other ks (
     go true t z next = absurd (omega (arith, z))
     go false n z next = next (omega (arith, z)) ∙ bound_unbind_other names k j (nat_ne_sym j k n)
 
--- what stood for none still does
+-- a name that denoted no region still denotes none
 pub left_gone : (ks : List ℕ) (names : Bindings) (j : ℕ) → bound names j ≡ None → bound (without_all names ks) j ≡ None
 left_gone [] names j e = e
 left_gone (k ∷ ks) names j e = left_gone ks (unbind names k) j
     (split (nat_eq k j) (λ t. subst (λ x. bound (unbind names k) x ≡ None) (eq_of k j t) (bound_unbind names k))
     (λ n. bound_unbind_other names k j n ∙ e))
 
--- what is given stands for none
+-- a given name denotes no region any more
 pub left_given : (ks : List ℕ) (names : Bindings) (j : ℕ) → 1 ≤ times_in j ks → bound (without_all names ks) j ≡ None
 left_given [] names j h = absurd (omega (arith, h))
 left_given (k ∷ ks) names j h = go (nat_eq j k) refl h (λ h'. left_given ks (unbind names k) j h')
@@ -303,7 +308,7 @@ pub left_unique : (ks : List ℕ) (names : Bindings) → AreUnique names → Are
 left_unique [] names u = u
 left_unique (k ∷ ks) names u = left_unique ks (unbind names k) (unique_unbind names k u)
 
--- what still stands for a region stood for it before
+-- a name that still denotes a region denoted it before
 pub left_was : (ks : List ℕ) (names : Bindings) (j : ℕ) (q : Region) → bound (without_all names ks) j ≡ Some q
     → bound names j ≡ Some q
 left_was ks names j q e = go (bound names j) refl
@@ -316,7 +321,7 @@ left_was ks names j q e = go (bound names j) refl
         split_on zero z = sym (left_other ks names j z) ∙ e
         split_on (suc m) z = let x = left_given ks names j (omega (arith, z)) in cc
 
--- own names that are all there are unbound one by one
+-- when given own names are unbound, the count loses each of them once
 pub left_count : (mine : Class) (r : ℕ) (ks : List ℕ) (names : Bindings) → AreUnique names
     → ((k : ℕ) → times_in k ks ≤ 1) → ((k : ℕ) → 1 ≤ times_in k ks → is_mine mine k ≡ true) → held_in mine r names
     ≡ bound_times (Numbered r) names ks + held_in mine r (without_all names ks)
@@ -335,7 +340,7 @@ left_count mine r (k ∷ ks) names u d m = go (bound names k) refl
     mine_here : is_mine mine k ≡ true
     mine_here = m k (let b : one_when (nat_eq k k) ≡ 1 = ap one_when (nat_eq_refl k) in omega (arith, b))
 
-    -- the others stand for what they stood for
+    -- the others denote what they denoted
     same : (js : List ℕ) → times_in k js ≡ 0 → bound_times (Numbered r) (unbind names k) js
         ≡ bound_times (Numbered r) names js
     same [] z = refl
@@ -373,7 +378,7 @@ left_count mine r (k ∷ ks) names u d m = go (bound names k) refl
 
 -- ---- a call keeps the counts of the goroutine
 
--- among these names none stands for r, or one does
+-- either none of these names denotes r, or one of them does
 found_in : (r : Region) (names : Bindings) (ks : List ℕ) → (bound_times r names ks ≡ 0)
     ⊎ ((k : ℕ) × (1 ≤ times_in k ks) × (bound names k ≡ Some r))
 found_in r names [] = inl refl
@@ -424,7 +429,7 @@ none_times r (s ∷ ss) e = go (same_region r s) e (none_times r ss)
     go true e next = cc
     go false e next = let h = next e in omega (arith, h)
 
--- where none of these names stands for r, each of them does not
+-- if the count of these names for r is zero, each of them denotes another region or none
 none_bound : (r : Region) (names : Bindings) (ks : List ℕ) (k : ℕ) → bound_times r names ks ≡ 0 → list_any (nat_eq k) ks
     ≡ true → same_bound r (bound names k) ≡ false
 none_bound r names [] k z e = cc
@@ -459,7 +464,7 @@ module _ (stakes : List ℕ) (base : List Region) (f : RegionEnvironment) (fs : 
   abbrev left_names : Bindings
   left_names = without_all f.names (given_names callee formals regions protects)
 
-  -- a name that is protected does not stand for a region that is not
+  -- a protected name does not denote an unprotected region
   free : (r : ℕ) → guards base (f ∷ fs) (Numbered r) ≡ false → (k : ℕ) → list_any (nat_eq k) protects ≡ true
       → same_bound (Numbered r) (bound f.names k) ≡ false
   free r u k p = none_bound (Numbered r) f.names protects k
@@ -483,7 +488,7 @@ module _ (stakes : List ℕ) (base : List Region) (f : RegionEnvironment) (fs : 
   count : (r : ℕ) → held_in f.lent r f.names ≡ bound_times (Numbered r) f.names gives + held_in f.lent r left_names
   count r = left_count f.lent r gives f.names core.unique.0 given_once given_mine
 
-  -- what is not protected is held as often behind the call as before
+  -- an unprotected region has as many holding names after the call as before
   conserved : (r : ℕ) → guards base (f ∷ fs) (Numbered r) ≡ false
       → held_in callee r callee_environment.names + held_in f.lent r left_names ≡ held_in f.lent r f.names
   conserved r u =
@@ -491,7 +496,7 @@ module _ (stakes : List ℕ) (base : List Region) (f : RegionEnvironment) (fs : 
       let b = count r in
       omega (arith, a, b)
 
-  -- a protected region has no given name, where nothing below protects it
+  -- a region that the caller protects, and no frame below it, has no given name; so the caller's count of it stays one
   guarded : (r : ℕ) → guards base fs (Numbered r) ≡ false → guards base (f ∷ fs) (Numbered r) ≡ true
       → held_in f.lent r left_names ≡ held_in f.lent r f.names
   guarded r n t = go (found_in (Numbered r) f.names gives)
@@ -550,7 +555,7 @@ module _ (stakes : List ℕ) (base : List Region) (f : RegionEnvironment) (fs : 
           with_protected (inl z) = omega (arith, z, some)
           with_protected (inr (j, pj, bj)) = clash k j gk bk pj bj
 
-  -- the region of the callee's result is held below, where it is not protected
+  -- the region of the callee's result has a holding name below, unless it is protected
   lends : (m r : ℕ) → callee ≡ Name m → bound callee_environment.names m ≡ Some (Numbered r)
       → guards base (f ∷ fs) (Numbered r) ≡ false → 1 ≤ held_in f.lent r left_names + held r fs
   lends m r l e u = go (lent_at f.names callee protects formals regions m r l fits.formals_fit e)
@@ -568,7 +573,7 @@ module _ (stakes : List ℕ) (base : List Region) (f : RegionEnvironment) (fs : 
           (left_other gives f.names k z ∙ b) mine in
           omega (arith, x)
 
-  -- the counts behind a call
+  -- the counts after a call
   pub called_core : NameInvariant stakes base (callee_environment ∷ record f { names = left_names } ∷ fs)
   called_core =
       core_called stakes base f fs gives callee_environment left_names

@@ -1,4 +1,6 @@
--- A return of checked code keeps what holds of the state.
+-- A return of checked code keeps what holds of the state. The frame that ends has no holding name left (rule 14), so no count changes.
+-- What the caller then owes can be done because it has waited with all that it did not give. A return without a caller leaves the ends
+-- of the base.
 use Rattle.std.proofs.Common.{◌≡◌, ℕ, zero, suc, ◌+◌, true, false, List, [], ◌∷◌, ◌++◌, map, length, Option, Some, None}
 use Rattle.std.proofs.Common.{refl, sym, ap, ◌∙◌, subst, nat_eq, slice_get, slice_set, option_map, Contains, append-nil}
 use Rattle.std.proofs.lemmas.Option.{same_Some}
@@ -32,12 +34,12 @@ use Rattle.rgo_tac.specs.Tac.{TacState}
 use Rattle.rgo_code.specs.declared.rules.Line.TheVariants as line
 use Rattle.rgo_code.specs.declared.rules.Rule.TheVariants as rule
 
--- the frames behind a return
+-- the frames after a return
 abbrev behind_frames : Code → TacFrame → Option ℕ → List TacFrame → List TacFrame
 behind_frames code frame value [] = []
 behind_frames code frame value (c ∷ cs) = tac_resumed (erased code) c (option_map (value_at frame) value) ∷ cs
 
--- a caller goes on at the instruction behind its call
+-- a caller continues at the instruction after its call
 resumed_next : (frame : TacFrame) (op : Op) (value : Option Value) → (resumed_by frame op value).next ≡ frame.next + 1
 resumed_next frame op None = refl
 resumed_next frame op (Some v) = refl
@@ -180,7 +182,7 @@ module _ (code : Code) (page_words : ℕ) (s : RegionState) (g : ℕ) (h : Holde
   as_long : length next.goroutines ≡ length s.plain.goroutines
   as_long = ap length (append-nil (slice_set s.plain.goroutines g frames')) ∙ length_set s.plain.goroutines g frames'
 
-  -- a return is no trap
+  -- a return does not trap
   untrapped : (n : ℕ) (fs : List TacFrame) (a b : Holder) → unless_trapped (end_by n fs None) a b ≡ b
   untrapped zero [] a b = refl
   untrapped zero (f ∷ fs) a b = refl

@@ -1,4 +1,5 @@
--- What the rule on protections says of the lists of a call, by counts.
+-- What the rule on protections says of the lists of a call, in counts: the rule speaks of two positions, and the count of holding names
+-- needs 'at most once'.
 use Rattle.std.proofs.Common.{◌≡◌, ◌≢◌, ℕ, zero, suc, ◌+◌, ◌≤◌, Bool, true, false, not, ◌||◌, List, [], ◌∷◌, Option}
 use Rattle.std.proofs.Common.{Some, refl, sym, ap, ◌∙◌, nat_eq, arith, ◌⊎◌, inl, inr, true≢false, slice_get, Contains}
 use Rattle.std.specs.List.{list_any}
@@ -35,7 +36,7 @@ named_at k (c ∷ cs) h = go (is_class_named k c) refl h (named_at k cs)
     go true e h next = (0, ap Some (is_named k c e))
     go false e h next = let x = next (omega (arith, h)) in (suc x.0, x.1)
 
--- one that is passed more than once has two
+-- a name that is passed more than once has two positions
 named_twice : (k : ℕ) (cs : List Class) → 2 ≤ times_named k cs → IsPassedTwice cs k
 named_twice k [] h = absurd (omega (arith, h))
 named_twice k (c ∷ cs) h = go (is_class_named k c) refl h (named_twice k cs) (named_at k cs)
@@ -62,7 +63,7 @@ named_twice k (c ∷ cs) h = go (is_class_named k c) refl h (named_twice k cs) (
 
 module _ (fn : CodeFn) (i : ℕ) (to : Option ℕ) (n : ℕ) (from : List ℕ) (passes : List Class) (protects removes : List ℕ)
     (rule : ProtectsUsed fn i (Call to n from passes protects removes)) where
-  -- what stands twice is protected
+  -- what is passed twice is protected
   pub protects_twice : (k : ℕ) → list_any (nat_eq k) protects ≡ false → times_named k passes ≤ 1
   protects_twice k n = go (times_named k passes) refl
     where
@@ -77,7 +78,7 @@ module _ (fn : CodeFn) (i : ℕ) (to : Option ℕ) (n : ℕ) (from : List ℕ) (
       go (suc zero) e = omega (arith, e)
       go (suc (suc m)) e = absurd (twice (omega (arith, e)))
 
-  -- and so is the caller's own result
+  -- and so is the name of the caller's own result
   pub protects_result : (k : ℕ) → list_any (nat_eq k) protects ≡ false → 1 ≤ times_named k passes
       → is_mine (result_class fn) k ≡ true
   protects_result k n h = split (is_class_named k (result_class fn)) (λ t. absurd (lent t)) (λ f. ap (λ x. not x) f)

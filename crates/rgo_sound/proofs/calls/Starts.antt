@@ -1,4 +1,7 @@
 -- A `go` of checked code keeps what holds of the state: the child has the stakes that were pending.
+-- The number of each region's stakes does not change, since pending stakes were counted before (`fine_started`). The child's count of
+-- names begins here: what is passed once has one name, and what is passed more often is in the base, where nothing is counted
+-- (`child_core`).
 use Rattle.std.proofs.Common.{◌≡◌, ℕ, zero, suc, ◌+◌, ◌≤◌, ◌<◌, Bool, true, false, not, ◌&&◌, ◌||◌, List, [], ◌∷◌, ◌++◌}
 use Rattle.std.proofs.Common.{map, length, Option, Some, None, is_some, refl, sym, ap, ◌∙◌, subst, nat_eq}
 use Rattle.std.proofs.Common.{if◌then◌else◌, arith, ◌⊎◌, inl, inr, ◌↔◌, true≢false, slice_get, slice_set, option_map}
@@ -95,7 +98,7 @@ stands_no r (Some q ∷ given) e = go (same_region (Numbered r) q) e (stands_no 
 abbrev is_twice : ℕ → List (Option Region) → Bool
 is_twice r given = list_any (same_region (Numbered r)) (twice given)
 
--- what stands twice is listed, and nothing else
+-- what is passed twice is listed, and nothing else
 twice_yes : (r : ℕ) (given : List (Option Region)) → is_twice r given ≡ true → 2 ≤ given_times r given
 twice_yes r [] e = absurd (true≢false (sym e))
 twice_yes r (None ∷ given) e = let x = twice_yes r given e in omega (arith, x)
@@ -144,7 +147,7 @@ twice_once (Some (Numbered q) ∷ given) = go (stands_in (Numbered q) given) (is
     go true true e h = h
     go false tw e h = h
 
--- the names of a child for a region
+-- how many names a child has for a region
 held_passed : (r : ℕ) (names : Bindings) (formals passes : List Class) → AreFormals formals → length passes
     ≡ length formals → held_in NoClass r (passed formals (passed_regions names passes))
     ≡ given_times r (passed_regions names passes)
@@ -286,7 +289,7 @@ module _ (code : Code) (checked : IsChecked code) (written : Ascends code) (fram
       most zero = omega arith
       most (suc n) = omega arith
 
-      -- the parent goes on
+      -- the parent continues
       edge : Contains {X = ℕ × List ℕ} (edges instr.op frame.next) (frame.next + 1, removes)
       edge = subst (λ (y : CodeOp). Contains {X = ℕ × List ℕ} (edges y frame.next) (frame.next + 1, removes)) (sym is)
           (contains_here {X = ℕ × List ℕ} (frame.next + 1, removes) [])
@@ -424,7 +427,7 @@ module _ (code : Code) (checked : IsChecked code) (written : Ascends code) (fram
                 (passed (region_parameters callee) (passed_regions f.names passes));
           }
 
--- ---- the state behind it
+-- ---- the state after it
 
 -- a sum over a longer list
 pub total_snoc : (f : Holder → ℕ) (hs : List Holder) (h : Holder) → total f (hs ++ h ∷ []) ≡ total f hs + f h
@@ -445,7 +448,8 @@ in_times r xs h = split (is_in r xs) (λ t. yes_in t) (λ n. not_in n)
         zero_when zero f a = a
         zero_when (suc n) f a = absurd (f (omega arith))
 
--- one goroutine has gone on and started another, which has the stakes that were pending
+-- One goroutine has continued and started another, which has the stakes that were pending. Regions stay, so what counts is that stakes
+-- and pending stakes together are as many as before.
 pub fine_started : (code : Code) (s t : RegionState) (g : ℕ) (h k c : Holder) (frames child : List TacFrame) → Fine code s
     → slice_get s.holders g ≡ Some h → t.regions ≡ s.regions → t.holders ≡ slice_set s.holders g k ++ c ∷ []
     → t.plain.goroutines ≡ slice_set s.plain.goroutines g frames ++ child ∷ [] → k.stakes ≡ h.stakes → k.pending ≡ []
@@ -467,7 +471,7 @@ fine_started code s t g h k c frames child fine e rs hs gs ks kp cs cp once good
     long : length (slice_set s.holders g k) ≡ length (slice_set s.plain.goroutines g frames)
     long = length_set s.holders g k ∙ fine.as_many ∙ sym (length_set s.plain.goroutines g frames)
 
-    -- who it is: another that was there, the parent, or the child
+    -- which goroutine j is: one that takes no part, the parent, or the child
     place : (j : ℕ) (x : Holder) → slice_get t.holders j ≡ Some x
         → ((nat_eq g j ≡ false) × (slice_get s.holders j ≡ Some x))
         ⊎ (((g ≡ j) × (x ≡ k)) ⊎ ((j ≡ length (slice_set s.holders g k)) × (x ≡ c)))

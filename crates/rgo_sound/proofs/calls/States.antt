@@ -1,4 +1,5 @@
--- A call of checked code keeps what holds of the state.
+-- A call of checked code keeps what holds of the state. It changes no stake and no region. That the two frames fit their names is shown
+-- in Enters, that the counts stay in Passed; here both are put together for the machine's step.
 use Rattle.std.proofs.Common.{◌≡◌, ◌≢◌, ℕ, zero, suc, ◌≤◌, true, false, List, [], ◌∷◌, ◌++◌, map, length, Option, Some}
 use Rattle.std.proofs.Common.{None, is_some, refl, sym, ap, ◌∙◌, subst, nat_eq, arith, ◌↔◌, true≢false, slice_get}
 use Rattle.std.proofs.Common.{slice_set, option_map, append-nil}
@@ -50,7 +51,7 @@ pub first_instr : (body : List CodeInstr) → body ≢ [] → (i : CodeInstr) ×
 first_instr [] n = absurd (n refl)
 first_instr (i ∷ is) n = (i, refl)
 
--- the holder behind the call, of a goroutine that owes nothing
+-- the holder after the call, of a goroutine that owes nothing
 module _ (code : Code) (checked : IsChecked code) (written : Ascends code) (frame : TacFrame) (callers : List TacFrame)
     (call : CodeInstr) (to : Option ℕ) (n : ℕ) (from : List ℕ) (passes : List Class) (protects removes : List ℕ)
     (is : call.op ≡ Call to n from passes protects removes) (cur : current code frame ≡ Some call) where
@@ -249,7 +250,7 @@ module _ (code : Code) (s : RegionState) (g : ℕ) (h : Holder) (frame : TacFram
     duties = map Remove callee.entry ++ next_duties code frames;
   }
 
-  -- the state behind the call
+  -- the state after the call
   behind : (callee : CodeFn) (frames : List TacFrame) (given : Holder × List Region) → code_function code n ≡ Some callee
       → slice_get s.plain.goroutines g ≡ Some frames → has_none h.duties ≡ true → SameHolder h given.0
       → Fine code (instructed_with code s g frame callers call (next callee) given)

@@ -1,4 +1,8 @@
 -- Pages are taken for objects: a goroutine that took a page makes an object there before it takes another.
+-- A page is paid for by an object that may not exist yet. So the invariant gives each goroutine a number of pages that it has taken in
+-- advance (`Paged`), all for the one object that it makes next (`Full`). The hard part is that this object cannot change in between,
+-- whatever other goroutines do: what an instruction makes depends on its frame alone, and not on memory (`MakesNext`). When the object
+-- is made, its pages move from the advance to the sum over the heap, which never shrinks.
 use Rattle.std.proofs.Common.{◌≡◌, ℕ, zero, suc, ◌+◌, ◌≤◌, ◌<◌, Bool, true, false, not, ◌&&◌, List, [], ◌∷◌, ◌++◌, map}
 use Rattle.std.proofs.Common.{length, Option, Some, None, refl, sym, ap, ◌∙◌, subst, nat_eq, nat_lt, nat_le}
 use Rattle.std.proofs.Common.{if◌then◌else◌, arith, true≢false, slice_get, slice_set, option_map, option_and_then}
@@ -75,7 +79,7 @@ use Rattle.rgo_sound.proofs.RunLemmas.{run_keeps}
 use Rattle.rgo_sound.specs.Invariant.{Fine}
 use Rattle.rgo_sound.proofs.Places.{tail_is}
 
--- ---- what an instruction makes is a matter of its frame alone
+-- ---- what an instruction makes depends on its frame alone
 
 -- what f does to a memory: it makes this object, traps, or does nothing, whatever the memory
 data MakesView (f : Memory → Effect) : Type 0 where
@@ -90,7 +94,7 @@ sized_view object (value.Bool b) = idles (λ m. refl)
 sized_view object value.Nil = idles (λ m. refl)
 sized_view object (value.Object o) = idles (λ m. refl)
 
--- an action that makes an object is none on a channel, and does the same to each memory
+-- an action that makes an object is not an operation on a channel, and does the same to each memory
 record MakesAction (structs : List Struct) (a : Action) (ty : «Type») (vs : List Value) : Type 0 where
   effect : Memory → Effect
   performs : (m : Memory) → performed structs a ty vs m ≡ Some (effect m)
@@ -173,7 +177,8 @@ makes_action structs Close ty vs m = absurd (true≢false (sym m))
 makes_action structs (Get n) ty vs m = absurd (true≢false (sym m))
 makes_action structs (Set n) ty vs m = absurd (true≢false (sym m))
 
--- the goroutine is to make this object, whatever the memory
+-- the next instruction of these frames makes this object, whatever the memory; a fact about the present memory alone would not survive
+-- the steps of others
 record MakesNext (code : Code) (frame : TacFrame) (callers : List TacFrame) (object : Object) : Type 0 where
   acted : (m : Memory) → (a : Acted) × (alone (erased code) m (frame ∷ callers) ≡ Some a)
       × (a.memory.heap ≡ m.heap ++ object ∷ [])
@@ -228,7 +233,7 @@ makes_alone code frame callers instr cur t = by instr.op refl t
     by (Branch v j removes k others) is t = absurd (true≢false (sym t))
     by (Return value) is t = absurd (true≢false (sym t))
 
--- what is there behind it
+-- what memory has after it
 module _ {code : Code} {frame : TacFrame} {callers : List TacFrame} (x : MakesAlone code frame callers) where
   after_makes : (m : Memory) (b : Acted) (object : Object) → alone (erased code) m (frame ∷ callers) ≡ Some b
       → x.effect m ≡ made m object → b.memory.heap ≡ m.heap ++ object ∷ []
@@ -245,7 +250,7 @@ module _ {code : Code} {frame : TacFrame} {callers : List TacFrame} (x : MakesAl
   after_nothing m b w p = ap (λ (y : Acted). y.memory.heap)
       (same_Some b _ (sym w ∙ x.does m ∙ ap (λ e. effected m frame callers x.to x.place (Some e)) p))
 
--- one step that made an object shows what each makes
+-- a step that made an object in one memory shows what it makes in every memory
 makes_next : (code : Code) (m : Memory) (frame : TacFrame) (callers : List TacFrame) (instr : CodeInstr) (a : Acted)
     (object : Object) → current code frame ≡ Some instr → alone (erased code) m (frame ∷ callers) ≡ Some a
     → slice_get a.memory.heap (length m.heap) ≡ Some object → MakesNext code frame callers object
@@ -356,7 +361,8 @@ sum_small c k (suc n) h =
     let d = mul-suc k n in
     omega (arith, a, b, d)
 
--- each page was taken for an object, or for one that its goroutine makes next
+-- Each page was taken for an object that was made, or for the one that its goroutine makes next. `counted` is not an equation: an object
+-- that fits what is left of a page needs no page of its own, and still counts for one.
 record Paged (code : Code) (page_words : ℕ) (s : RegionState) : Type 0 where
   c : ℕ → ℕ
   beyond : (g : ℕ) → length s.holders ≤ g → c g ≡ 0
@@ -364,7 +370,7 @@ record Paged (code : Code) (page_words : ℕ) (s : RegionState) : Type 0 where
       (length s.holders)
   full : (g : ℕ) (h : Holder) → slice_get s.holders g ≡ Some h → (n : ℕ) → c g ≡ suc n
       → Full code page_words s.plain g h (suc n)
-  -- reserved pages are among them
+  -- reserved pages are among those taken in advance, so they are bounded, too
   covers : (g : ℕ) (h : Holder) → slice_get s.holders g ≡ Some h → h.reserved ≤ c g
 
 sum_beyond : (c : ℕ → ℕ) (n more : ℕ) → n ≤ more → ((j : ℕ) → n ≤ j → c j ≡ 0) → sum_to c more ≡ sum_to c n
@@ -424,7 +430,7 @@ abbrev KeptReserved : ℕ → Holder → Option Object → Holder × List Region
 KeptReserved page_words h object given =
     (Holder.reserved given.0 ≡ h.reserved) × ((x : Object) → object ≡ Some x → is_spread page_words x ≡ false)
 
--- an object's place leaves none reserved, or all
+-- when an object is placed, either no page stays reserved, or all do
 allotted_reserved : (page_words : ℕ) (h : Holder) (region : Option Region) (object : Option Object)
     (given : Holder × List Region) → allotted page_words h region object ≡ Some given
     → (Holder.reserved given.0 ≡ 0) ⊎ KeptReserved page_words h object given
@@ -491,7 +497,7 @@ child_reserved code h (Return value) child i y e = cc
 differs : (j g : ℕ) → g < j → nat_eq j g ≡ false
 differs j g l = grind arith
 
--- the holder behind an instruction
+-- the holder after an instruction
 abbrev after_of : {code : Code} → {page_words : ℕ} → {s : RegionState} → {g : ℕ} → {t : RegionState}
     → OneDone code page_words s g t → Holder
 after_of {code} {page_words} {s} {g} x = unless_trapped (after s.plain g x.a).ended x.given.0
@@ -695,7 +701,7 @@ module _ (code : Code) (page_words : ℕ) (s : RegionState) (paged : Paged code 
       next : MakesNext code frame callers x
       next = makes_next code s.plain.memory frame callers instr acted.0 x cur acted.1 acted.2
 
-      -- the pages taken before were for this object
+      -- the pages taken before were for this object: both objects are what the same frame makes next
       same_as : (n : ℕ) (f : Full code page_words s.plain g h n) → (f.object ≡ x) × (f.region ≡ r)
       same_as n f =
           let fr : f.frame ≡ frame = head_is f.frame frame f.callers callers (sym f.at ∙ at) in
@@ -738,7 +744,7 @@ module _ (code : Code) (page_words : ℕ) (s : RegionState) (paged : Paged code 
             kept = kept;
           }
 
-      -- it had no page with room
+      -- It had no page with room, so it had taken none in advance: a page taken for this object would have had room for it.
       full_whole : is_spread page_words x ≡ false
           → Full code page_words s.plain g (with_page page_words h r x) (suc (paged.c g))
       full_whole n = full_with (let a = was_none (paged.c g) refl in omega (arith, a))
@@ -907,7 +913,7 @@ module _ (code : Code) (page_words : ℕ) (s : RegionState) (paged : Paged code 
       grows = sum_only_grows (pages_of page_words) (pages_kept_by page_words) (erased code) s.plain.memory
           (x.frame ∷ x.callers) x.a x.acts
 
-      -- what was to be made is made
+      -- the object for which the pages were taken is made: they are paid for from now on
       paid : object_pages page_words s + paged.c g ≤ sum_by (pages_of page_words) x.a.memory.heap
       paid = go (paged.c g) refl
         where
@@ -1045,7 +1051,7 @@ module _ (code : Code) (page_words : ℕ) (s : RegionState) (paged : Paged code 
                   within false e c = let a = paged.beyond j (ge_of j (length s.holders) e) in
                       absurd (omega (arith, a, c))
 
-  -- who stands at a channel makes no object next
+  -- a goroutine whose next instruction makes no object has taken no page in advance; so at a meeting both sides have none
   not_full : (g : ℕ) (h : Holder) (frame : TacFrame) (callers : List TacFrame) (instr : CodeInstr) → frames_of s.plain g
       ≡ frame ∷ callers → current code frame ≡ Some instr → ((f : Option CodeFn) (names : Bindings)
       → making_region f names instr.op ≡ None) → (n : ℕ) → Full code page_words s.plain g h n → ⊥

@@ -1,4 +1,7 @@
 -- The regions made are bounded by the names of a function, for each step and each goroutine.
+-- The invariant counts a creation when it comes to be owed (`Bounded`), so doing it changes nothing. An instruction pays for the
+-- creations that came before it with its own step: they are at most the names of its function (`few_at`). A meeting is one step for two
+-- instructions, so for it they must be none: a receive and a send name only regions that are held before them (`none_created`).
 use Rattle.std.proofs.Common.{◌≡◌, ◌≢◌, ℕ, zero, suc, ◌+◌, ◌*◌, ◌≤◌, Bool, true, false, ◌||◌, ◌&&◌, List, [], ◌∷◌, ◌++◌}
 use Rattle.std.proofs.Common.{map, length, Option, Some, None, refl, sym, ap, ◌∙◌, subst, if◌then◌else◌, arith}
 use Rattle.std.proofs.Common.{true≢false, slice_get, slice_set, option_map, ◌⊎◌, inl, inr, length-append, Contains}
@@ -78,7 +81,7 @@ mul_more a n = grind arith
 mul_add : (a b n : ℕ) → (a + b) * n ≡ a * n + b * n
 mul_add a b n = grind arith
 
--- ---- creations that are owed, and those of the instructions at which goroutines stand
+-- ---- creations that are owed, and those of the next instructions of all goroutines
 
 abbrev creates_in : List Duty → ℕ
 creates_in [] = 0
@@ -219,7 +222,7 @@ removed_other k j (c ∷ cs) n e = go (is_class_named k c) refl (is_class_named 
     go false ea true eb e next = ap (λ x. x || list_any (is_class_named j) (removed_name k cs)) eb
     go false ea false eb e next = or_there (is_class_named j c) (next e)
 
--- distinct names that stand in a list are no more than it is long
+-- distinct names from a list are at most as many as its elements
 fewer : (ks : List ℕ) (cs : List Class) → AreDistinct ks → ((k : ℕ) → Contains ks k → list_any (is_class_named k) cs ≡ true)
     → length ks ≤ length cs
 fewer [] cs d h = omega arith
@@ -237,7 +240,7 @@ most_of (g ∷ fs) (suc n) f e = let a = le-max_right (name_count g) (most_names
     omega (arith, a, b)
 
 module _ (code : Code) (checked : IsChecked code) (written : Ascends code) where
-  -- the creations of an instruction
+  -- an instruction creates at most the names of its function, since its list of creations has each name once
   few_at : (frame : TacFrame) (o : Option CodeFn) → function_at code frame ≡ o → (instr : CodeInstr) → current code frame
       ≡ Some instr → length instr.creates ≤ most_names code.functions
   few_at frame None q instr cur = let x : None ≡ Some instr = sym (ap (λ o. current_in o frame.next) q) ∙ cur in cc
@@ -289,8 +292,8 @@ module _ (code : Code) (checked : IsChecked code) (written : Ascends code) where
       more : (n : ℕ) → suc n ≡ n + 1
       more n = omega arith
 
-  -- an instruction that reads a variable joined to the one that it writes, if it writes one with a class, and no other,
-  -- creates nothing: what it names is held
+  -- An instruction creates nothing if the variable that it writes, in case that has a class, is joined with one that it reads: the name
+  -- of their class is held before it, and what is held is not created.
   none_created : (frame : TacFrame) (fn : CodeFn) (instr : CodeInstr) → function_at code frame ≡ Some fn
       → current code frame ≡ Some instr → ((v : ℕ) → writes (erased_op instr.op) ≡ Some v → class_of fn v ≢ NoClass
       → (c : ℕ) × Contains (reads (erased_op instr.op)) c × (class_of fn c ≡ class_of fn v)) → length instr.creates ≡ 0
@@ -341,7 +344,7 @@ module _ (code : Code) (checked : IsChecked code) (written : Ascends code) where
           ∙ ap (option_map (λ (slot : Slot). slot.ty)) e) ∙ (checked rule.Classes (line.Slot n v) fn s q e).0
           (λ z. classed (ap slot_class e ∙ z))
 
-  -- a receive and a send
+  -- a receive and a send create nothing: the value received is joined with the channel, and a send writes no pointer
   receive_none : (frame : TacFrame) (fn : CodeFn) (instr : CodeInstr) (to : Option ℕ) (channel : ℕ) (removes : List ℕ)
       → function_at code frame ≡ Some fn → current code frame ≡ Some instr → instr.op
       ≡ Do to Recv (channel ∷ []) removes → length instr.creates ≡ 0
@@ -434,7 +437,7 @@ record Bounded (code : Code) (s : RegionState) : Type 0 where
       s.plain.goroutines
 
 module _ (code : Code) (page_words : ℕ) (s : RegionState) (old : Bounded code s) where
-  -- one goroutine has another holder; regions are made where duties to make them are done
+  -- one goroutine has another holder, and regions made and creations owed are together as many as before
   bounded_with : (t : RegionState) (g : ℕ) (h k : Holder) → slice_get s.holders g ≡ Some h → t.plain ≡ s.plain → t.steps
       ≡ s.steps → t.holders ≡ slice_set s.holders g k → length t.regions + creates_in k.duties
       ≡ length s.regions + creates_in h.duties → Bounded code t
@@ -528,7 +531,7 @@ module _ (code : Code) (page_words : ℕ) (s : RegionState) (old : Bounded code 
 
   -- ---- instructions
 
-  -- the duties behind an instruction
+  -- what is owed after an instruction creates what the next instruction asks for, and nothing else
   after_creates : (k : Holder) (frame : TacFrame) (callers : List TacFrame) (op : CodeOp) (next : List TacFrame)
       → creates_in (holder_after code k frame callers op next).duties ≡ creates_of code next
   after_creates k frame callers (Do to action from removes) next =
@@ -755,7 +758,7 @@ record FineBounded (code : Code) (s : RegionState) : Type 0 where
   fine : Fine code s
   bounded : Bounded code s
 
--- each state of a run of checked code is bounded so
+-- every state of every run of checked code keeps the bound
 bounded_always : (code : Code) (page_words : ℕ) (events : List Event) (s : RegionState) → IsChecked code → Ascends code
     → region_run code page_words events ≡ Some s → FineBounded code s
 bounded_always code page_words events s checked written run =
@@ -787,7 +790,7 @@ regions_always code page_words events s checked written run =
     let c = mul_add s.steps (length s.plain.goroutines) (most_names code.functions) in
     omega (arith, a, b, c)
 
--- and where a goroutine is to create a region, there is one fewer than that
+-- and if a goroutine is to create a region, there is one fewer than that
 pub regions_to_come : (code : Code) (page_words : ℕ) (events : List Event) (s : RegionState) (g k : ℕ) (h : Holder)
     (duties : List Duty) → IsChecked code → Ascends code → region_run code page_words events ≡ Some s
     → slice_get s.holders g ≡ Some h → h.duties ≡ Create k ∷ duties

@@ -1,4 +1,5 @@
--- A region that was removed stays as it was.
+-- A region that was removed stays as it was, whatever the code. Each step that changes a region tests that it is live; so the region
+-- that it changes is another one.
 use Rattle.std.proofs.Common.{◌≡◌, ℕ, true, false, ◌&&◌, List, [], ◌∷◌, Some, sym, ap, ◌∙◌, nat_eq, nat_lt, true≢false}
 use Rattle.std.proofs.Common.{slice_get}
 use Rattle.std.proofs.lemmas.Option.{slice_get_within}

@@ -1,4 +1,5 @@
--- A run that has room for each of its steps is a run, and stays within the room.
+-- A run that has room for each of its steps is a run, and stays within the room. By the law on tallies a step adds at most one page or
+-- one region, and the test before it says that one more fits.
 use Rattle.std.proofs.Common.{◌≡◌, ◌≤◌, ◌+◌, ℕ, Bool, true, false, List, [], ◌∷◌, ◌++◌, Option, Some, None, refl, sym, ap}
 use Rattle.std.proofs.Common.{◌∙◌, subst, nat_eq, nat_lt, if◌then◌else◌, arith, slice_get, option_and_then}
 use Rattle.std.proofs.lemmas.Bool.Decides.{nat_tests}
@@ -25,13 +26,13 @@ use Rattle.rgo_tac.specs.Tac.{TacState}
 
 -- ---- what a step may add
 
--- so much more still fits
+-- the counts d still fit beside those of s
 record StillFits (sizes : Sizes) (s : RegionState) (d : Counts) : Type 0 where
   pages : pages_in_use s + d.taken ≤ sizes.pages
   regions : live_regions s + d.made ≤ sizes.regions
 
 module _ (sizes : Sizes) (s : RegionState) (fits : StateFitsIn sizes s) where
-  -- no page and no region
+  -- if a step adds no page and no region, it fits
   none_more : (d : Counts) → d.taken ≡ 0 → d.made ≡ 0 → StillFits sizes s d
   none_more d t m = record {
     pages = let f = fits.pages in omega (arith, f, t);
@@ -102,7 +103,7 @@ module _ (sizes : Sizes) (s : RegionState) (fits : StateFitsIn sizes s) where
   by_event code (Acknowledge g) room = none_more no_share refl refl
   by_event code (Finish limit) room = none_more no_share refl refl
 
-  -- a state with so much more
+  -- a state with these counts more
   then_fits : (t : RegionState) (d : Counts) → counts_of t ≡ counts_plus (counts_of s) d → StillFits sizes s d
       → StateFitsIn sizes t
   then_fits t d adds still = record {

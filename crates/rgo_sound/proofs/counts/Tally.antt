@@ -1,4 +1,6 @@
--- What each step adds to the counts of a run.
+-- What each step adds to the counts of a run. Counts are sums over all regions, and a step changes one region or none, so a sum changes
+-- at one place (`changed_counts`). The one case that takes care is the end of a stake: only with the last one the region and its pages
+-- count as returned (`one_less`).
 use Rattle.std.proofs.Common.{◌≡◌, ℕ, zero, suc, ◌+◌, ◌≤◌, Bool, true, false, ◌&&◌, List, [], ◌∷◌, ◌++◌, length, Option}
 use Rattle.std.proofs.Common.{Some, None, refl, sym, ap, ◌∙◌, subst, nat_eq, nat_lt, if◌then◌else◌, arith, true≢false}
 use Rattle.std.proofs.Common.{slice_get, slice_set, option_and_then, sum_by, length-append}
@@ -36,7 +38,7 @@ use Rattle.rgo_sound.specs.Tally.{share_of_holder, share_of_last, share_of_named
 use Rattle.rgo_tac.specs.Frames.{TacFrame}
 use Rattle.rgo_tac.specs.Tac.{TacState}
 
--- t has the counts of s, and d
+-- the counts of t are those of s and d together
 record Adds (s : RegionState) (d : Counts) (t : RegionState) : Type 0 where
   made : length t.regions ≡ length s.regions + d.made
   removed : sum_by (λ (i : RegionInfo). cond (is_removed i) 1 0) t.regions
@@ -80,7 +82,7 @@ add_none : (n : ℕ) → n ≡ n + 0
 add_none n = omega arith
 
 module _ (s : RegionState) where
-  -- nothing that counts
+  -- a step that changes nothing that is counted
   same_counts : (t : RegionState) → t.regions ≡ s.regions → t.global_pages ≡ s.global_pages → t.steps ≡ s.steps
       → t.plain ≡ s.plain → Adds s no_share t
   same_counts t rs gs ss ps =
@@ -95,7 +97,7 @@ module _ (s : RegionState) where
         goroutines = ap (λ (p : TacState). length p.goroutines) ps ∙ add_none _;
       }
 
-  -- one region has changed, in which there is a stake
+  -- one region has changed, and it had a stake: before the change it did not count as removed
   changed_counts : (t : RegionState) (r : ℕ) (change : RegionInfo → RegionInfo) (info : RegionInfo) (d : Counts)
       → slice_get s.regions r ≡ Some info → t.regions ≡ with_info s.regions r change → t.global_pages ≡ s.global_pages
       → t.steps ≡ s.steps → t.plain ≡ s.plain →
@@ -117,7 +119,7 @@ module _ (s : RegionState) where
         goroutines = let a = ap (λ (p : TacState). length p.goroutines) ps in omega (arith, a, d7);
       }
 
-  -- a live region
+  -- a live region was created, and has a stake
   live_info : (r : ℕ) → is_live s.regions (Numbered r) ≡ true → (info : RegionInfo)
       × (slice_get s.regions r ≡ Some info) × ((n : ℕ) × (info.stakes ≡ suc n))
   live_info r l = go (slice_get s.regions r) refl l
@@ -329,7 +331,7 @@ module _ (s : RegionState) where
 
   -- ---- instructions
 
-  -- what the plain machine made, of a step that changes no region
+  -- what the three-address machine made, in a step that changes no region
   plain_counts : (t : RegionState) (next : TacState) → t.regions ≡ s.regions → t.global_pages ≡ s.global_pages → t.steps
       ≡ s.steps + 1 → t.plain ≡ plain_after s next → length s.plain.memory.heap ≤ length t.plain.memory.heap
       → length s.plain.goroutines ≤ length t.plain.goroutines → Adds s (share_of_plain s (Some next)) t
@@ -389,7 +391,7 @@ tally_adds code page_words s t event e = adds_counts s t (share_of code s event)
     (yields_is {P = Adds s (share_of code s event)} (region_step code page_words s event) t
     (adds_step s code page_words event) e)
 
--- ---- only an instruction is a step: what a goroutine does with a region is none
+-- ---- a region step does not count as a step: only instructions do
 
 none_of_last : (o : Option RegionInfo) → (share_of_last o).steps ≡ 0
 none_of_last None = refl

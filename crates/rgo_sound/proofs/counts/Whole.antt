@@ -1,4 +1,5 @@
--- Where no object is spread, as many pages are enough as there are objects and goroutines.
+-- If no object is spread, as many pages are enough as there are objects and goroutines: each object then counts for one page, and so
+-- does the largest.
 use Rattle.std.proofs.Common.{◌≡◌, ℕ, zero, suc, ◌+◌, ◌-◌, ◌*◌, ◌/◌, false, List, [], ◌∷◌, length, max, Option, Some, None}
 use Rattle.std.proofs.Common.{refl, ap, ◌∙◌, arith, slice_get, sum_by, if◌then◌else◌}
 use Rattle.std.proofs.lemmas.List.Sums.{sum_by-cons}

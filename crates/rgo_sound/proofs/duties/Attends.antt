@@ -1,4 +1,7 @@
 -- Each duty that a goroutine owes can be done in its turn, and keeps what holds of the state.
+-- By `IsReady` the name denotes a region, by `NameInvariant` the goroutine has a stake in that, and by the count of stakes it is live.
+-- What is left is to keep the three parts. The hard case is the removal that ends a stake (`goes_removal`): the count of names says
+-- that this name was the last one, and the count of stakes loses one on both sides (`stake_ends`).
 use Rattle.std.proofs.Common.{◌≡◌, ◌≢◌, ℕ, zero, suc, ◌+◌, ◌-◌, ◌≤◌, ◌<◌, Bool, true, false, not, ◌||◌, List, [], ◌∷◌}
 use Rattle.std.proofs.Common.{◌++◌, map, length, Option, Some, None, refl, sym, ap, ◌∙◌, subst, nat_eq, nat_lt}
 use Rattle.std.proofs.Common.{if◌then◌else◌, arith, length-append, ◌⊎◌, inl, inr, true≢false, slice_get, slice_set}
@@ -52,7 +55,7 @@ total_none f (x ∷ xs) n = let a = n 0 x refl in let b = total_none f xs (λ g 
 
 -- ---- regions
 
--- what a change of one region leaves of it, and of the others
+-- a change of one region: its own entry, and those of the others
 pub with_info_same : (xs : List RegionInfo) (r : ℕ) (c : RegionInfo → RegionInfo) → slice_get (with_info xs r c) r
     ≡ option_map c (slice_get xs r)
 with_info_same [] r c = refl
@@ -79,7 +82,7 @@ length_with_info [] r c = refl
 length_with_info (x ∷ xs) zero c = refl
 length_with_info (x ∷ xs) (suc r) c = let e = length_with_info xs r c in omega (arith, e)
 
--- a region in which a goroutine has a stake is live
+-- a region in which a goroutine has a stake is live: its number of stakes counts that goroutine
 pub staked_live : (code : Code) (s : RegionState) (g : ℕ) (h : Holder) (r : ℕ) → Fine code s → slice_get s.holders g
     ≡ Some h → is_in r h.stakes ≡ true → is_live s.regions (Numbered r) ≡ true
 staked_live code s g h r fine e i = go (get_some s.regions r (fine.made g h r e i))
@@ -94,7 +97,7 @@ staked_live code s g h r fine e i = go (get_some s.regions r (fine.made g h r e 
         let b : one_when (is_in r h.stakes) ≡ 1 = ap one_when i in
         ap has_stakes q ∙ positive info.stakes (omega (arith, a, b, c))
 
--- another holder of one goroutine, and other regions
+-- a step that changes the holder of one goroutine and the regions: what it has to show so that all that holds of the state still does
 pub fine_with : (code : Code) (s : RegionState) (g : ℕ) (h k : Holder) (regions : List RegionInfo) → Fine code s
     → slice_get s.holders g ≡ Some h → length s.regions ≤ length regions → GoodHolder code (frames_of s.plain g) k
     → ((r : ℕ) → is_in r k.stakes ≡ true → r < length regions)
@@ -128,7 +131,7 @@ fine_with code s g h k regions fine e more good staked pending counts =
 
 -- ---- one duty
 
--- a holder by its fields in order
+-- a holder by its fields in order, so that each case below shows which of them changes
 abbrev pub holder : List ℕ → List ℕ → List RegionEnvironment → List Region → List (Region × ℕ) → ℕ → List Duty → Offer
     → Holder
 holder stakes pending environments base fills reserved duties offer =
@@ -144,13 +147,13 @@ holder stakes pending environments base fills reserved duties offer =
       offer = offer;
     }
 
--- there is a step, and what holds of the state holds behind it
+-- the step exists, and what holds of the state holds after it
 pub record Goes (code : Code) (o : Option RegionState) : Type 0 where
   pub state : RegionState
   pub goes : o ≡ Some state
   pub fine : Fine code state
 
--- a function's own name is the frame's
+-- an own name of the function is a holding name of its frame
 mine_of : (fn : CodeFn) (f : RegionEnvironment) (k : ℕ) → f.lent ≡ result_class fn → IsOwn fn k → is_mine f.lent k ≡ true
 mine_of fn f k l own = split (is_class_named k f.lent) (λ t. absurd (own (sym l ∙ is_named k f.lent t)))
     (λ n. ap (λ x. not x) n)
@@ -160,11 +163,11 @@ pub not_positive : (n : ℕ) → (0 < n → ⊥) → n ≡ 0
 not_positive zero h = refl
 not_positive (suc n) h = absurd (h (omega arith))
 
--- the name that is lent is no own name
+-- a lent name is not an own name
 pub lent_names : (lent : Class) (j : ℕ) → lent ≡ Name j → is_mine lent j ≡ false
 lent_names lent j e = ap (λ x. is_mine x j) e ∙ ap (λ x. not x) (nat_eq_refl j)
 
--- what is protected behind the end of a protection was protected before it
+-- what is protected after the end of a protection was protected before it
 pub any_removed : (p : Region → Bool) (q : Region) (ss : List Region) → list_any p (removed_once q ss) ≡ true
     → list_any p ss ≡ true
 any_removed p q [] e = e
@@ -179,7 +182,7 @@ any_removed p q (s ∷ ss) e = go (same_region q s) e (any_removed p q ss)
     go true e next = or_there (p s) (list_any p ss) e
     go false e next = deeper (p s) (list_any p (removed_once q ss)) (list_any p ss) e next
 
--- a goroutine's stake ends
+-- A goroutine's stake ends. The region's number and the sum over the goroutines each lose one, and no other region changes.
 stake_ends : (code : Code) (s : RegionState) (g : ℕ) (h k : Holder) (r : ℕ) → Fine code s → slice_get s.holders g
     ≡ Some h → is_in r h.stakes ≡ true → k.stakes ≡ without r h.stakes → k.pending ≡ h.pending
     → GoodHolder code (frames_of s.plain g) k → Fine code
@@ -248,7 +251,7 @@ module _ (code : Code) (s : RegionState) (g : ℕ) (stakes pending : List ℕ) (
     (base : List Region) (fills : List (Region × ℕ)) (reserved : ℕ) (ds : List Duty) (offer : Offer) (frame : TacFrame)
     (callers : List TacFrame) (fine : Fine code s) (once : EachOnce base) (at : frames_of s.plain g ≡ frame ∷ callers)
   where
-    -- the holder before its duty d and behind it, where nothing else has changed
+    -- the holder before its duty d, and after it if nothing else has changed
     abbrev before : Duty → Holder
     before d = holder stakes pending (f ∷ fs) base fills reserved (d ∷ ds) offer
 
@@ -258,7 +261,7 @@ module _ (code : Code) (s : RegionState) (g : ℕ) (stakes pending : List ℕ) (
     abbrev Sharing : Duty → Type 0
     Sharing d = Shares (to_share code (frame ∷ callers)) (d ∷ ds) f.names pending
 
-    -- the frame stands as it stood, with other names, protections and duties
+    -- the frame is at the same instruction, with other names, protections and duties
     stands_on : (d : Duty) → Stands code frame f (d ∷ ds) → (names : Bindings) (protections : List Region)
         → ((fn : CodeFn) (instr : CodeInstr) → IsReady (IsFree fn frame.next) (Settled fn frame.next instr) (d ∷ ds)
         f.names f.protections → IsReady (IsFree fn frame.next) (Settled fn frame.next instr) ds names protections)
@@ -296,7 +299,7 @@ module _ (code : Code) (s : RegionState) (g : ℕ) (stakes pending : List ℕ) (
             let q' : times_in r k.pending ≡ times_in r pending = ap (times_in r) b in
             omega (arith, c, p, q, p', q')
 
-    -- Create
+    -- Create: the number is new, so nobody else has a stake in the region, and no other name denotes it
     abbrev created : ℕ → Holder
     created k = holder (length s.regions ∷ stakes) pending
         (record f { names = (k, Numbered (length s.regions)) ∷ unbind f.names k } ∷ fs) base fills reserved ds offer
@@ -397,14 +400,14 @@ module _ (code : Code) (s : RegionState) (g : ℕ) (stakes pending : List ℕ) (
                 no_pending j x i = not_positive (times_in q x.pending)
                     (λ p. let l = fine.pended j x q i p in omega (arith, l, o))
 
-    -- what a name stands for
+    -- the holder without the name, and without its stake
     abbrev unnamed : ℕ → Holder
     unnamed k = holder stakes pending (record f { names = unbind f.names k } ∷ fs) base fills reserved ds offer
 
     abbrev unstaked : ℕ → ℕ → Holder
     unstaked k r = holder (without r stakes) pending (record f { names = unbind f.names k } ∷ fs) base fills reserved ds offer
 
-    -- Remove
+    -- Remove: Global and a protected region stay, and only the name goes; otherwise the stake ends with its last name
     goes_removal : (k : ℕ) (q : Region) → bound f.names k ≡ Some q → slice_get s.holders g ≡ Some (before (Remove k))
         → NameInvariant stakes base (f ∷ fs) → Stands code frame f (Remove k ∷ ds) → AllWait code callers fs → Sharing (Remove k)
         → Goes code (removal s g (unnamed k) q)
@@ -492,7 +495,8 @@ module _ (code : Code) (s : RegionState) (g : ℕ) (stakes pending : List ℕ) (
             let x = goes_removal k q b e c st w sh in
             record { state = x.state; goes = ap (option_and_then (removal s g (unnamed k))) b ∙ x.goes; fine = x.fine }
 
-    -- Protect
+    -- Protect: the goroutine has a stake in the region, as a name denotes it. A frame's own protections do not enter the count of its
+    -- names, so no count changes.
     abbrev protecting : Region → Holder
     protecting q = holder stakes pending (record f { protections = q ∷ f.protections } ∷ fs) base fills reserved ds offer
 
@@ -537,7 +541,7 @@ module _ (code : Code) (s : RegionState) (g : ℕ) (stakes pending : List ℕ) (
                   });
             }
 
-    -- Unprotect
+    -- Unprotect: again no count changes, since the names of this frame were counted all along
     abbrev unprotecting : Region → Holder
     unprotecting q = holder stakes pending (record f { protections = removed_once q f.protections } ∷ fs) base fills reserved ds
         offer
@@ -565,7 +569,7 @@ module _ (code : Code) (s : RegionState) (g : ℕ) (stakes pending : List ℕ) (
                   });
             }
 
-    -- Share
+    -- Share: a pending stake and the region's number grow together, unless the region is pending already
     abbrev sharing : ℕ → Holder
     sharing r = holder stakes (r ∷ pending) (f ∷ fs) base fills reserved ds offer
 
@@ -718,7 +722,7 @@ module _ (code : Code) (s : RegionState) (g : ℕ) (stakes pending : List ℕ) (
     abbrev ended : List ℕ → List Region → Holder
     ended st base = holder st pending [] base fills reserved ds offer
 
-    -- the end of a protection that the goroutine had from its start, and the end of the stake with it
+    -- the end of a protection in the base ends the stake, too: no frame is left that could name the region, and the base has it once
     goes_end : (r : Region) → slice_get s.holders g ≡ Some
         (holder stakes pending [] (r ∷ rs) fills reserved (EndBase r ∷ ds) offer) → NameInvariant stakes (r ∷ rs) [] → EachOnce (r ∷ rs)
         → ds ≡ map EndBase rs → Shares [] ds [] pending → Goes code (removal s g (ended stakes rs) r)

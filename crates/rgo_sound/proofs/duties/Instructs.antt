@@ -1,4 +1,6 @@
--- An instruction of one goroutine that is no call, no `go` and no return keeps what holds of the state.
+-- An instruction of one goroutine that neither calls, starts nor returns keeps what holds of the state. It changes no name, no stake
+-- and no region by itself: it only adds duties. So all that has to be shown is that those can be done along the edge that it takes
+-- (`frame_goes`).
 use Rattle.std.proofs.Common.{◌≡◌, ℕ, ◌+◌, ◌<◌, Bool, true, false, List, [], ◌∷◌, ◌++◌, map, length, Option, Some, None}
 use Rattle.std.proofs.Common.{refl, sym, ap, ◌∙◌, subst, nat_eq, arith, if◌then◌else◌, ◌⊎◌, inl, inr, slice_get}
 use Rattle.std.proofs.Common.{slice_set, option_map, Contains, append-nil}
@@ -34,7 +36,7 @@ use Rattle.rgo_tac.specs.Code.{Tac}
 use Rattle.rgo_tac.specs.Frames.{TacFrame, frame_after_instr, moved_to, value_at, operand_values}
 use Rattle.rgo_tac.specs.Steps.{destination_type}
 
--- what the rules give of each instruction, and that control goes on only to an instruction
+-- what the rules say of each instruction, and that control continues only at an instruction
 pub record IsRuled (code : Code) : Type 0 where
   pub kept : (n i : ℕ) (fn : CodeFn) (instr : CodeInstr) → slice_get code.functions n ≡ Some fn → HasInstr fn i instr
       → Kept code fn i instr
@@ -128,7 +130,7 @@ acts_so code m (Branch v j removes k others) place frame callers simple =
         (contains_here {X = ℕ × List ℕ} (k, others) [])
 acts_so code m (Return value) place frame callers simple = absurd simple
 
--- ---- the state behind it
+-- ---- the state after it
 
 -- one goroutine has other frames and another holder, with the same stakes
 pub fine_plain : (code : Code) (s t : RegionState) (g : ℕ) (h k : Holder) → Fine code s → slice_get s.holders g ≡ Some h
@@ -220,7 +222,7 @@ simple_protects (Jump j removes) simple = refl
 simple_protects (Branch v j removes k others) simple = refl
 simple_protects (Return value) simple = refl
 
--- the frame that goes on, of a goroutine that owes nothing
+-- the frame that continues, of a goroutine that owes nothing
 pub frame_goes : (code : Code) (frame frame' : TacFrame) (callers : List TacFrame) (instr : CodeInstr) (k : Holder)
     (environments : List RegionEnvironment) (duties : List Duty) → IsRuled code → current code frame ≡ Some instr
     → IsSimple instr.op → duties ≡ [] → NameInvariant k.stakes k.base environments → EachOnce k.base

@@ -1,4 +1,6 @@
--- What an instruction leaves of a goroutine's frames: moves along an edge, and returns.
+-- What an instruction leaves of a goroutine's frames: moves along an edge, and returns. A return adds the ends of the call's
+-- protections before the removals. When these have been done no protection is left (`ready_unprotects`), and without that a removal
+-- would not be ready.
 use Rattle.std.proofs.Common.{◌≡◌, ◌≢◌, ℕ, ◌+◌, ◌≤◌, Bool, true, false, List, [], ◌∷◌, ◌++◌, map, Option, Some, None}
 use Rattle.std.proofs.Common.{refl, sym, ap, ◌∙◌, subst, if◌then◌else◌, arith, ◌⊎◌, inl, inr, true≢false, Contains}
 use Rattle.std.proofs.Common.{append_assoc, append-nil}
@@ -27,7 +29,7 @@ use Rattle.rgo_tac.specs.declared.regions.Class.{Class}
 
 -- ---- protections by number
 
--- none is left where none is counted
+-- a list of protections in which no region is counted is empty
 none_left : (protections : List Region) → ((r : Region) → times r protections ≡ 0) → protections ≡ []
 none_left [] n = refl
 none_left (s ∷ ss) n = let a = n s in let b : one_when (same_region s s) ≡ 1 = ap one_when (same_reflexive s) in
@@ -39,7 +41,7 @@ same_regions GlobalRegion (Numbered s) e = cc
 same_regions (Numbered r) GlobalRegion e = cc
 same_regions (Numbered r) (Numbered s) e = ap Numbered (eq_of r s e)
 
--- one less of q, where there is one
+-- one less of q, if there is one
 pub times_removed : (r q : Region) (protections : List Region) → 1 ≤ times q protections
     → times r (removed_once q protections) + one_when (same_region r q) ≡ times r protections
 times_removed r q [] h = absurd (omega (arith, h))
@@ -55,7 +57,7 @@ times_removed r q (s ∷ ss) h = go (same_region q s) refl (λ l. times_removed 
         let k = next (omega (arith, h, z)) in
         omega (arith, k)
 
--- ---- protections end behind a call
+-- ---- protections end after a call
 
 -- the protections of the names ks end one after the other, and leave none
 ready_unprotects : (Own : ℕ → Type 0) (Then : Bindings → List Region → Type 0) (ks : List ℕ) (duties : List Duty)
@@ -82,7 +84,7 @@ ready_unprotects Own Then (k ∷ ks) duties names protections h fit next = (
         let t = times_removed r q protections (omega (arith, a', b')) in
         omega (arith, a, b, t)
 
--- what is owed before the next instruction shares what it is to share
+-- what is owed before the next instruction shares what that instruction passes
 pub owed : (code : Code) (frame : TacFrame) (callers : List TacFrame) (next : CodeInstr) (front : List Duty)
     → HasNoShare front → (names : Bindings) (pending : List ℕ) (fn : CodeFn) → function_at code frame ≡ Some fn
     → HasInstr fn frame.next next → pending ≡ [] → Shares (to_share code (frame ∷ callers))
@@ -93,7 +95,7 @@ owed code frame callers next front n names pending fn is here none =
     (subst (λ o. Shares (to_share code (frame ∷ callers)) (front ++ duties_before o) names []) cur
     (shares_next code (frame ∷ callers) front n names))
 
--- an instruction that shares nothing stands with nothing pending
+-- before an instruction that shares nothing, nothing is pending
 pub settled_pending : (code : Code) (frame : TacFrame) (callers : List TacFrame) (instr : CodeInstr) (names : Bindings)
     (duties : List Duty) (pending : List ℕ) → current code frame ≡ Some instr → shared_names instr.op ≡ [] → duties ≡ []
     → Shares (to_share code (frame ∷ callers)) duties names pending → pending ≡ []
@@ -101,9 +103,9 @@ settled_pending code frame callers instr names duties pending cur none d sh =
     none_pending names pending (subst (λ x. Shares x [] names pending) (ap shared_before cur ∙ none)
     (subst (λ x. Shares (to_share code (frame ∷ callers)) x names pending) d sh))
 
--- ---- along an edge, behind an instruction that is no call
+-- ---- along an edge, after an instruction that is not a call
 
--- what gives nothing away leaves what was there
+-- an instruction that gives no name away leaves the names as they were
 settled_left : (code : Code) (fn : CodeFn) (i : ℕ) (instr : CodeInstr) (names : Bindings) (protections : List Region)
     → ((k : ℕ) → ¬ (LeavesToCallee code instr.op k)) → Settled fn i instr names protections → Left code fn i instr names
 settled_left code fn i instr names protections n s = record {
@@ -150,7 +152,7 @@ moves_on code fn frame frame' callers instr next removes h f fs is a is' b c g p
 
 -- ---- a return
 
--- what a call names is there behind it, unless it was given
+-- a name that a call uses is bound after it, unless it was given
 left_named : (code : Code) (fn : CodeFn) (i k : ℕ) (instr : CodeInstr) (names : Bindings) → Kept code fn i instr
     → Left code fn i instr names → ¬ (LeavesToCallee code instr.op k) → UsesRegionName fn instr.op k → bound names k ≢ None
 left_named code fn i k instr names a l g n e = split (is_class_named k (result_class fn))
@@ -161,7 +163,7 @@ left_named code fn i k instr names a l g n e = split (is_class_named k (result_c
     own o (inl c) = l.made k c g e
     own o (inr m) = m ((a.creates k).1 (o, n, (λ h. l.there k h g e)))
 
--- a return to a caller: the protections of its call end, and then it goes on along the call's edge
+-- a return to a caller: the protections of its call end, and then the caller continues along the call's edge
 pub returns_on : (code : Code) (fn caller_fn : CodeFn) (frame caller caller' : TacFrame) (callers : List TacFrame)
     (instr call next : CodeInstr) (value : Option ℕ) (to : Option ℕ) (n : ℕ) (from : List ℕ) (passes : List Class)
     (protects removes : List ℕ) (h : Holder) (f d : RegionEnvironment) (fs : List RegionEnvironment) →

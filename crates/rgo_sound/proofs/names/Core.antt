@@ -1,4 +1,7 @@
 -- How each step changes the count of holding names, and why each region of a goroutine keeps one holding name.
+-- Each lemma `core_..` is one kind of change of a goroutine's frames, whatever instruction caused it. The hard one is the last removal
+-- (`core_removed`). The stake may end only if no name of the goroutine denotes the region afterwards: no second holding name can, since
+-- the count is one, and no name of a result, since it would have a holding name below (`names_below`).
 use Rattle.std.proofs.Common.{◌≡◌, ℕ, ◌+◌, ◌≤◌, Bool, true, false, not, ◌&&◌, ◌||◌, List, [], ◌∷◌, Some, None, refl}
 use Rattle.std.proofs.Common.{sym, ap, ◌∙◌, subst, nat_eq, if◌then◌else◌, arith, ◌⊎◌, inl, inr, true≢false}
 use Rattle.std.specs.List.{list_any}
@@ -17,7 +20,7 @@ use Rattle.rgo_tac.specs.declared.regions.Class.TheVariants.{Global, Name, NoCla
 
 -- ---- names
 
--- a name that is unbound stands for nothing, and the others for what they stood for
+-- an unbound name denotes nothing, and the others denote what they denoted
 pub bound_unbind : (names : Bindings) (k : ℕ) → bound (unbind names k) k ≡ None
 bound_unbind [] k = refl
 bound_unbind (b ∷ bs) k = grind (arith, bound_unbind bs k)
@@ -46,7 +49,7 @@ unique_unbind (b ∷ bs) k u = go (nat_eq b.0 k) (unique_unbind bs k u.1)
 
 -- ---- counting
 
--- a name that is unbound leaves the count without what it counted for
+-- to unbind a name takes from the count what the name counted for
 pub held_unbind : (lent : Class) (r : ℕ) (names : Bindings) (k : ℕ) (q : Region) → AreUnique names → bound names k
     ≡ Some q → held_in lent r names ≡ one_when (is_mine lent k && same_region (Numbered r) q) + held_in lent r
     (unbind names k)
@@ -81,7 +84,7 @@ held_unbind lent r (b ∷ bs) k q u e = split (nat_eq b.0 k) (λ t. here t) (λ 
 same_self : (r : ℕ) → same_region (Numbered r) (Numbered r) ≡ true
 same_self r = nat_eq_refl r
 
--- an own name that stands for r counts for r
+-- an own name that denotes r counts for r
 pub bound_held : (lent : Class) (r : ℕ) (names : Bindings) (k : ℕ) → AreUnique names → bound names k ≡ Some (Numbered r)
     → is_mine lent k ≡ true → 1 ≤ held_in lent r names
 bound_held lent r names k u e m =
@@ -90,7 +93,7 @@ bound_held lent r names k u e m =
     ap (λ x. one_when (x && same_region (Numbered r) (Numbered r))) m ∙ ap one_when (same_self r) in
     omega (arith, h, one)
 
--- a count that is not none has a name
+-- the count is zero, or an own name denotes the region
 pub found : (lent : Class) (r : ℕ) (names : Bindings) → AreUnique names → (held_in lent r names ≡ 0)
     ⊎ ((k : ℕ) × (bound names k ≡ Some (Numbered r)) × (is_mine lent k ≡ true))
 found lent r [] u = inl refl
@@ -124,7 +127,7 @@ found lent r (b ∷ bs) u = go (is_mine lent b.0) (same_region (Numbered r) b.1)
     go true false em et (inl z) = inl (let a : one_when (is_mine lent b.0 && same_region (Numbered r) b.1) ≡ 0 =
         ap (λ x. one_when (x && same_region (Numbered r) b.1)) em ∙ ap one_when et in omega (arith, a, z))
 
--- what is not a frame's own is the class that it was lent
+-- a name that is not the frame's own is the one that it was lent
 lent_name : (lent : Class) (k : ℕ) → is_mine lent k ≡ false → lent ≡ Name k
 lent_name NoClass k e = cc
 lent_name Global k e = cc
@@ -134,7 +137,7 @@ lent_name (Name j) k e = ap Name (sym (eq_of k j (go (nat_eq k j) e)))
     go true e = refl
     go false e = cc
 
--- a name that stands for an unprotected region: its holding name stands here or below
+-- a name that denotes an unprotected region has a holding name in this frame or below
 pub binds_held : (base : List Region) (f : RegionEnvironment) (fs : List RegionEnvironment) (k r : ℕ) → AreUnique f.names
     → IsLentBelow base f fs → guards base fs (Numbered r) ≡ false → bound f.names k ≡ Some (Numbered r)
     → 1 ≤ held r (f ∷ fs)
@@ -169,7 +172,7 @@ base_guards base [] r e = e
 base_guards base (f ∷ fs) r e = or_there (list_any (same_region r) f.protections) (guards base fs r)
     (base_guards base fs r e)
 
--- where no frame holds r, and none protects it, no frame names it: so its stake may end
+-- if no frame holds r, and none protects it, then no frame names it, not even for a result; so the stake in it may end
 pub names_below : (base : List Region) (r : ℕ) (stakes : List ℕ) (fs : List RegionEnvironment) → AreUniqueIn fs
     → AreLentBelow base fs → guards base fs (Numbered r) ≡ false → held r fs ≡ 0 → AreStaked stakes fs
     → AreStaked (without r stakes) fs
@@ -226,7 +229,7 @@ core_unbound stakes base f fs k keeps c =
         clash t = let n : bound (unbind names k) j ≡ None =
             subst (λ x. bound (unbind names k) x ≡ None) (eq_of k j t) (bound_unbind names k) in cc
 
--- a region whose name is removed and which is protected below, or is Global: it stays
+-- a name is removed whose region is protected below, or is Global: its frame is not counted for that region, so the count stays
 pub core_kept : (stakes : List ℕ) (base : List Region) (f : RegionEnvironment) (fs : List RegionEnvironment) (k : ℕ) (q : Region)
     → bound f.names k ≡ Some q → ((r : ℕ) → q ≡ Numbered r → guards base fs (Numbered r) ≡ true)
     → NameInvariant stakes base (f ∷ fs) → NameInvariant stakes base (record f { names = unbind f.names k } ∷ fs)
@@ -342,14 +345,14 @@ core_removed stakes base f fs k r e m g c =
                 ap (λ x. one_when (is_mine f.lent k && x)) (nat_ne_sym r q n) ∙ none_if (is_mine f.lent k) in
                 omega (arith, h, z)
 
--- protections of the top frame begin and end
+-- protections of the top frame begin and end: they cut off the count for the frames above it, and there are none
 pub core_protected : (stakes : List ℕ) (base : List Region) (f : RegionEnvironment) (fs : List RegionEnvironment)
     (protections : List Region) → RegionsStaked stakes protections → NameInvariant stakes base (f ∷ fs)
     → NameInvariant stakes base (record f { protections = protections } ∷ fs)
 core_protected stakes base f fs protections h c = record
     { unique = c.unique; staked = (c.staked.0, h, c.staked.2); based = c.based; once = c.once; lent = c.lent }
 
--- a frame that holds nothing goes
+-- a frame without holding names goes, as at a return
 pub core_popped : (stakes : List ℕ) (base : List Region) (f : RegionEnvironment) (fs : List RegionEnvironment)
     → ((k : ℕ) → is_mine f.lent k ≡ true → bound f.names k ≡ None) → NameInvariant stakes base (f ∷ fs) → NameInvariant stakes base fs
 core_popped stakes base f fs empty c =
@@ -382,7 +385,7 @@ core_popped stakes base f fs empty c =
           (sym (or_there (list_any (same_region (Numbered r)) d.protections) (guards base ds (Numbered r)) u) ∙ g))),
     )
 
--- what is protected, the goroutine has a stake in; and what it holds
+-- the goroutine has a stake in what it protects, and in what it holds
 guards_staked : (stakes : List ℕ) (base : List Region) (fs : List RegionEnvironment) (r : ℕ) → AreStaked stakes fs
     → RegionsStaked stakes base → guards base fs (Numbered r) ≡ true → is_in r stakes ≡ true
 guards_staked stakes base [] r s b g = b r g
@@ -420,7 +423,7 @@ staked_more r stakes (f ∷ fs) s = (
   staked_more r stakes fs s.2,
 )
 
--- a region is made under an own name that stands for none
+-- a region is created under an own name that denotes none; no name denotes the new number yet, so its count becomes one
 pub core_created : (stakes : List ℕ) (base : List Region) (f : RegionEnvironment) (fs : List RegionEnvironment) (k r : ℕ)
     → bound f.names k ≡ None → is_mine f.lent k ≡ true → is_in r stakes ≡ false → NameInvariant stakes base (f ∷ fs)
     → NameInvariant (r ∷ stakes) base (record f { names = (k, Numbered r) ∷ unbind f.names k } ∷ fs)
@@ -500,7 +503,7 @@ core_created stakes base f fs k r e m fresh c =
         go true t e'' = absurd (true≢false (sym m ∙ ap (is_mine f.lent) (eq_of k j t) ∙ named f.lent j l))
         go false n e'' = c.lent.0 j q l (ap (λ x. bound x j) (sym same) ∙ e'') u
 
--- a call: what it is given, its names; what the caller gives, ks, is unbound there
+-- what is asked of a call: g is the callee's environment, and `left` the caller's names without the names ks that it gives
 pub record Passes (base : List Region) (f : RegionEnvironment) (fs : List RegionEnvironment) (ks : List ℕ) (g : RegionEnvironment)
     (left : Bindings) : Type 0 where
   pub without_protection : g.protections ≡ []
@@ -515,7 +518,7 @@ pub record Passes (base : List Region) (f : RegionEnvironment) (fs : List Region
   pub lends : (m r : ℕ) → g.lent ≡ Name m → bound g.names m ≡ Some (Numbered r) → guards base (f ∷ fs) (Numbered r)
       ≡ false → 1 ≤ held_in f.lent r left + held r fs
 
--- the call of a function: its frame stands on the caller's, which has lost what it gave
+-- the call of a function: its frame comes on top of the caller's, which has lost what it gave
 pub core_called : (stakes : List ℕ) (base : List Region) (f : RegionEnvironment) (fs : List RegionEnvironment) (ks : List ℕ)
     (g : RegionEnvironment) (left : Bindings) → Passes base f fs ks g left → NameInvariant stakes base (f ∷ fs)
     → NameInvariant stakes base (g ∷ record f { names = left } ∷ fs)
@@ -557,7 +560,7 @@ core_called stakes base f fs ks g left p c =
             → held_in f.lent r left + held r fs ≡ 1
         kept s u = ap (λ x. x + held r fs) (p.guarded r u s) ∙ (c.once r e).0 u
 
--- the end of a base entry, behind all frames
+-- the end of a base entry, after all frames are gone
 pub core_unbased : (stakes : List ℕ) (base left : List Region) (r : ℕ)
     → ((q : ℕ) → nat_eq r q ≡ false → list_any (same_region (Numbered q)) base
     ≡ list_any (same_region (Numbered q)) left) → list_any (same_region (Numbered r)) left ≡ false → NameInvariant stakes base []

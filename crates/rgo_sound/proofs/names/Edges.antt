@@ -1,4 +1,6 @@
--- What the rules say of the names along an edge, and that the duties on it can be done.
+-- What the rules say of the names along an edge, and that the duties on it can be done. The order is that of the machine: removals
+-- first, then creations, then what the next instruction asks for. After them the frame is settled (`arrives`): the removals unbind what
+-- is no longer held, and the creations bind what was not.
 use Rattle.std.proofs.Common.{◌≡◌, ◌≢◌, ℕ, suc, ◌+◌, true, false, List, [], ◌∷◌, ◌++◌, map, Option, Some, None, refl}
 use Rattle.std.proofs.Common.{sym, ap, ◌∙◌, subst, nat_eq, arith, ◌⊎◌, inl, inr, Contains, option_map, slice_get}
 use Rattle.std.proofs.Common.{if◌then◌else◌}
@@ -28,8 +30,8 @@ use Rattle.rgo_tac.specs.declared.regions.Class.TheVariants.{Global, Name, NoCla
 -- ---- duties that can be done
 
 module _ (Own : ℕ → Type 0) (Then : Bindings → List Region → Type 0) where
-  -- names that are bound, and free to go, can be removed in their turn; behind the removals none of them is bound, and
-  -- the others are as they were
+  -- names that are bound, and free to go, can be removed in their turn; after the removals none of them is bound, and the others are as
+  -- they were
   pub ready_removes : (rs : List ℕ) (duties : List Duty) (names : Bindings) → AreDistinct rs
       → ((k : ℕ) → Contains rs k → (bound names k ≢ None) × Own k)
       → ((left : Bindings) → ((k : ℕ) → Contains rs k → bound left k ≡ None)
@@ -60,7 +62,7 @@ module _ (Own : ℕ → Type 0) (Then : Bindings → List Region → Type 0) whe
       first left gone kept k (inl e) = subst (λ x. bound left x ≡ None) e (kept r d.0 ∙ bound_unbind names r)
       first left gone kept k (inr c) = gone k c
 
-  -- the same of creations, of names that are not bound
+  -- the same for creations, of names that are not bound
   pub ready_creates : (cs : List ℕ) (duties : List Duty) (names : Bindings) (protections : List Region) → AreDistinct cs
       → ((k : ℕ) → Contains cs k → (bound names k ≡ None) × Own k)
       → ((new : Bindings) → ((k : ℕ) → Contains cs k → bound new k ≢ None)
@@ -99,7 +101,7 @@ module _ (Own : ℕ → Type 0) (Then : Bindings → List Region → Type 0) whe
           some_none r e = cc
       first r new made kept k (inr i) = made k i
 
-  -- bound names can be shared, and nothing of the names changes
+  -- bound names can be shared, and no name changes
   pub ready_shares : (ks : List ℕ) (names : Bindings) (protections : List Region)
       → ((k : ℕ) → Contains ks k → bound names k ≢ None) → Then names protections
       → IsReady Own Then (map Share ks) names protections
@@ -126,7 +128,7 @@ module _ (Own : ℕ → Type 0) (Then : Bindings → List Region → Type 0) whe
 
 -- ---- along an edge
 
--- an edge of an instruction with regions is one of what is left of it without
+-- an edge of an instruction is an edge of its erasure
 edge_leads : (op : CodeOp) (i j : ℕ) (removes : List ℕ) → Contains (edges op i) (j, removes)
     → Contains (leads_to (erased_op op) i) j
 edge_leads (Do to action from rs) i j removes c = subst (λ x. Contains ((i + 1) ∷ []) x)
@@ -149,7 +151,7 @@ edge_leads (Branch v t rs u rs') i j removes c = go (contains_cases (t, rs) ((u,
         (ap (λ (p : ℕ × List ℕ). p.0) (contains_one (u, rs') (j, removes) d)) (contains_here u []))
 edge_leads (Return value) i j removes c = absurd (contains_nil (j, removes) c)
 
--- what is live behind an edge and not written before it is live before it
+-- a variable that is live after an edge, and not written by the instruction, is live before it
 pub live_back : (fn : CodeFn) (i j v : ℕ) (instr : CodeInstr) (removes : List ℕ) → HasInstr fn i instr
     → Contains (edges instr.op i) (j, removes) → (writes (erased_op instr.op) ≡ Some v → ⊥) → Live (erased_fn fn) v j
     → Live (erased_fn fn) v i
@@ -166,7 +168,7 @@ live_back fn i j v instr removes here c w (n, l) =
       ),
     )
 
--- what is held behind was held before, or created
+-- what is held after an instruction was held before it, or was created
 hold_back : (fn : CodeFn) (i j k : ℕ) (instr : CodeInstr) (removes : List ℕ) → HasInstr fn i instr
     → Contains (edges instr.op i) (j, removes) → CreatesUsed fn i instr → ¬ (Contains instr.creates k) → Holds fn k j
     → ¬ (¬ (Holds fn k i))
@@ -182,7 +184,7 @@ hold_back fn i j k instr removes here c creates n (own, at) never =
       },
     )
 
--- what is held behind a call was not given to it
+-- what is held after a call was not given: by rule 10 a name that is live after it is protected, if it is passed
 hold_not_given : (code : Code) (fn : CodeFn) (i j k : ℕ) (op : CodeOp) (removes : List ℕ)
     → Contains (edges op i) (j, removes) → ProtectsUsed fn i op → Holds fn k j → ¬ (LeavesToCallee code op k)
 hold_not_given code fn i j k (Call to n from passes protects rs) removes c p h g =
@@ -201,7 +203,7 @@ asked_names (Call to n from passes protects removes) = protects
 asked_names (Go n from passes removes) = regions_named passes
 asked_names op = []
 
--- what an instruction asks for can be done where all of it is bound; behind it the protections are those that it names
+-- what an instruction asks for can be done if all of it is bound; after it the protections are those that it names
 pub ready_ops : (Own : ℕ → Type 0) (Then : Bindings → List Region → Type 0) (op : CodeOp) (names : Bindings)
     → ((k : ℕ) → Contains (asked_names op) k → bound names k ≢ None)
     → ((protections : List Region) → AreProtections protections names (protected_names op) → Then names protections)
@@ -242,7 +244,7 @@ pub record Kept (code : Code) (fn : CodeFn) (i : ℕ) (instr : CodeInstr) : Type
   pub written : InstrAscends i instr
   pub asked : (k : ℕ) → Contains (asked_names instr.op) k → UsesRegionName fn instr.op k
 
--- what is there before an instruction names all that the instruction names
+-- every name that an instruction uses is bound before it
 pub named_bound : (fn : CodeFn) (i k : ℕ) (instr : CodeInstr) (names : Bindings) → CreatesUsed fn i instr
     → ((k : ℕ) → Holds fn k i → bound names k ≢ None) → ((k : ℕ) → Contains instr.creates k → bound names k ≢ None)
     → ((k : ℕ) → result_class fn ≡ Name k → bound names k ≢ None) → UsesRegionName fn instr.op k → bound names k ≢ None
@@ -254,8 +256,8 @@ named_bound fn i k instr names creates there made lent n e =
     own o (inl c) = made k c e
     own o (inr m) = m ((creates k).1 (o, n, (λ h. there k h e)))
 
--- along an edge: the removals, the creations and what the next instruction asks for can all be done, and then the frame
--- is settled
+-- Along an edge: the removals, the creations and what the next instruction asks for can all be done, and then the frame is settled.
+-- Here the rules on names become facts on duties, for every kind of instruction at once.
 pub arrives : (code : Code) (fn : CodeFn) (i j : ℕ) (instr next : CodeInstr) (removes : List ℕ) (names : Bindings)
     → Kept code fn i instr → Contains (edges instr.op i) (j, removes) → Kept code fn j next → Left code fn i instr names
     → IsReady (IsFree fn j) (Settled fn j next) (map Remove removes ++ duties_before (Some next)) names []
@@ -322,7 +324,7 @@ arrives code fn i j instr next removes names a c b l =
 
 -- ---- the top frame of a goroutine that owes nothing
 
--- the instruction that is known of it is the one at which it stands
+-- the instruction that its facts name is its next one
 pub standing_instr : (code : Code) (frame : TacFrame) (f : RegionEnvironment) (duties : List Duty) (instr : CodeInstr)
     (st : Stands code frame f duties) → current code frame ≡ Some instr → st.instr ≡ instr
 standing_instr code frame f duties instr st cur =

@@ -1,4 +1,5 @@
--- Stakes for a coming child: what is pending after the duties of an instruction.
+-- Stakes for a child: what is pending after the duties of an instruction. Only shares change that, so all other duties may come before
+-- them (`shares_front`). A region that is passed under two names is pending once; so the count of names is cut off at one.
 use Rattle.std.proofs.Common.{◌≡◌, ℕ, zero, suc, ◌+◌, ◌≤◌, Bool, true, false, ◌||◌, List, [], ◌∷◌, ◌++◌, map, Option}
 use Rattle.std.proofs.Common.{Some, None, refl, sym, ap, ◌∙◌, subst, nat_eq, if◌then◌else◌, arith, true≢false}
 use Rattle.std.specs.List.{list_any}
@@ -37,7 +38,7 @@ creates_share_none : (ks : List ℕ) → HasNoShare (map Create ks)
 creates_share_none [] = tt
 creates_share_none (k ∷ ks) = creates_share_none ks
 
--- duties without a share may stand before any others
+-- duties without a share may come before any others
 pub shares_front : (ks : List ℕ) (front ds : List Duty) (pending : List ℕ) → HasNoShare front
     → ((names : Bindings) → Shares ks ds names pending) → (names : Bindings) → Shares ks (front ++ ds) names pending
 shares_front ks [] ds pending n next names = next names
@@ -52,7 +53,7 @@ shares_front ks (EndBase r ∷ front) ds pending n next names = shares_front ks 
 zero_add : (n : ℕ) → n ≡ 0 + n
 zero_add n = omega arith
 
--- what stands in a list is counted, and what does not is not
+-- what is in a list is counted at least once, and what is not in it never
 times_any : (r : ℕ) (xs : List ℕ) → list_any (nat_eq r) xs ≡ true → 1 ≤ times_in r xs
 times_any r [] e = absurd (true≢false (sym e))
 times_any r (x ∷ xs) e = go (nat_eq r x) e (times_any r xs)
@@ -139,7 +140,7 @@ shares_before None names = λ r. refl
 shares_before (Some i) names = shares_front (shared_names i.op) (map Create i.creates) (duties_of_op i.op) []
     (creates_share_none i.creates) (shares_op i.op) names
 
--- where nothing is pending, what a goroutine comes to owe before its next instruction shares what it is to share
+-- if nothing is pending, what a goroutine comes to owe before its next instruction shares what that instruction passes
 pub shares_next : (code : Code) (frames : List TacFrame) (front : List Duty) → HasNoShare front → (names : Bindings)
     → Shares (to_share code frames) (front ++ next_duties code frames) names []
 shares_next code frames front n names = shares_front (to_share code frames) front (next_duties code frames) [] n
@@ -149,7 +150,7 @@ shares_next code frames front n names = shares_front (to_share code frames) fron
     next [] names = λ r. refl
     next (frame ∷ callers) names = shares_before (current code frame) names
 
--- where nothing is counted, nothing is pending
+-- if nothing is counted, nothing is pending
 none_in : (xs : List ℕ) → ((r : ℕ) → times_in r xs ≡ 0) → xs ≡ []
 none_in [] h = refl
 none_in (x ∷ xs) h = let a = h x in let b : one_when (nat_eq x x) ≡ 1 = ap one_when (nat_eq_refl x) in

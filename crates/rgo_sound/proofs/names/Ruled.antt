@@ -1,4 +1,5 @@
--- Checked code gives the facts that the steps ask for.
+-- Checked code gives the facts that the steps ask for. The fourteen rules speak of whole code; here each becomes a fact on one
+-- instruction (`IsRuled`), so that no other file takes the rules apart.
 use Rattle.std.proofs.Common.{◌≡◌, ◌≢◌, ℕ, zero, suc, ◌+◌, ◌<◌, Bool, true, false, List, [], ◌∷◌, ◌++◌, length, Option}
 use Rattle.std.proofs.Common.{Some, None, is_some, refl, sym, ap, ◌∙◌, subst, nat_eq, if◌then◌else◌, arith, ◌⊎◌, inl}
 use Rattle.std.proofs.Common.{inr, true≢false, slice_get, Contains, option_map}
@@ -42,7 +43,7 @@ erased_function code n f e = go (code_function code n) refl
     go None q = let x : Some f ≡ None = sym e ∙ is ∙ ap (option_map erased_fn) q in cc
     go (Some g) q = (g, q, same_Some f (erased_fn g) (sym e ∙ is ∙ ap (option_map erased_fn) q))
 
--- and each of the code is there
+-- and each function of the code is in the erased code
 pub erased_found : (code : Code) (n : ℕ) (g : CodeFn) → code_function code n ≡ Some g
     → slice_get (erased code).functions n ≡ Some (erased_fn g)
 erased_found code n g e = slice_get-map erased_fn code.functions n ∙ ap (option_map erased_fn) e
@@ -91,7 +92,7 @@ start_is_there code n from x = go (erased_function code n x.callee x.declared)
 
 -- ---- the instruction of a frame
 
--- the instruction that a frame is to do is one of its function
+-- the next instruction of a frame is one of its function
 pub record IsAt (code : Code) (frame : TacFrame) (instr : CodeInstr) : Type 0 where
   pub fn : CodeFn
   pub is_fn : function_at code frame ≡ Some fn
@@ -256,7 +257,7 @@ asked_named code fn i instr (Jump j removes) is exists calls starts p k c = absu
 asked_named code fn i instr (Branch v j removes j' others) is exists calls starts p k c = absurd (contains_nil k c)
 asked_named code fn i instr (Return value) is exists calls starts p k c = absurd (contains_nil k c)
 
--- control goes on to an instruction
+-- control continues at an instruction: a jump does not lead out of its function
 next_is_there : (fn : CodeFn) (i j : ℕ) (code : Code) (instr : CodeInstr) (op : CodeOp) (removes : List ℕ) → instr.op
     ≡ op → HasInstr fn i instr → InstrExists (erased code) (erased_fn fn) i (erased_op instr.op)
     → Contains {X = ℕ × List ℕ} (edges op i) (j, removes) → j < length fn.body

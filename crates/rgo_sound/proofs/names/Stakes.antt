@@ -1,4 +1,5 @@
--- What the invariant says of stakes: one holding name each, duties that name live regions, nothing left at the end.
+-- What the invariant says of stakes: one holding name each, duties that name live regions, nothing left at the end. All of it follows
+-- from the invariant at one state, with no look at how the state was reached.
 use Rattle.std.proofs.Common.{◌≡◌, ℕ, zero, suc, Bool, true, false, ◌||◌, List, [], ◌∷◌, map, length, Some, refl, sym}
 use Rattle.std.proofs.Common.{ap, ◌∙◌, subst, nat_eq, if◌then◌else◌, arith, ◌⊎◌, inl, inr, true≢false, slice_get}
 use Rattle.std.proofs.Common.{Contains, count_by, cond}
@@ -48,7 +49,7 @@ in_contains (x ∷ xs) r e = split (nat_eq r x) (λ t. subst (λ y. Contains (x 
 
 -- ---- one holding name
 
--- a region that no frame protects is held once in all
+-- a region that no frame protects has one holding name in all frames together
 held_once : (r : ℕ) (base : List Region) (environments : List RegionEnvironment) → IsHeldOnce r base environments
     → guards base environments (Numbered r) ≡ false → held r environments ≡ 1
 held_once r base [] o g = absurd (true≢false (sym o ∙ g))
@@ -71,7 +72,7 @@ has_stake code s g h (Numbered q) fine e i = (
       (i q refl),
 )
 
--- what a name of the top frame stands for
+-- what a name of the top frame denotes
 pub name_staked : (code : Code) (s : RegionState) (g : ℕ) (h : Holder) (k : ℕ) (r : Region) → Fine code s
     → slice_get s.holders g ≡ Some h → bound (top_names h.environments) k ≡ Some r → HasStake s h r
 name_staked code s g h k r fine e b = has_stake code s g h r fine e
@@ -112,9 +113,9 @@ duty_staked code s g h (EndBase p) ds r fine e q n =
         (subst (λ y. IsReady (IsFree fit.0.fn frame.next) (Settled fit.0.fn frame.next fit.0.instr) y f.names
         f.protections) q fit.0.ready)
 
--- ---- where all have ended, nobody has a stake, and each region is removed
+-- ---- if all goroutines have ended, nobody has a stake, and each region is removed
 
--- one that has ended has no stake
+-- one that has ended has no stake: with no frame left, a stake would need an entry in the base, and the base has ended
 ended_unstaked : (code : Code) (s : RegionState) (g : ℕ) (h : Holder) → Fine code s → slice_get s.holders g ≡ Some h
     → HasEnded s g h → (r : ℕ) → is_in r h.stakes ≡ false
 ended_unstaked code s g h fine e n r = split (is_in r h.stakes)
@@ -132,7 +133,7 @@ ended_unstaked code s g h fine e n r = split (is_in r h.stakes)
     go (f ∷ fs) [] duties a b c fit t = fit
     go environments (frame ∷ callers) duties a b c fit t = cc
 
--- nothing is pending of one that has ended
+-- one that has ended has nothing pending
 ended_unpending : (code : Code) (s : RegionState) (g : ℕ) (h : Holder) → Fine code s → slice_get s.holders g ≡ Some h
     → HasEnded s g h → h.pending ≡ []
 ended_unpending code s g h fine e n =
@@ -141,7 +142,7 @@ ended_unpending code s g h fine e n =
     (subst (λ (x : List TacFrame). Shares (to_share code x) h.duties (top_names h.environments) h.pending) n.0
     (fine.each g h e).shares))
 
--- where all have ended, no region has a stake
+-- if all have ended, no region has a stake
 pub all_unstaked : (code : Code) (s : RegionState) → Fine code s → AllEnded s → (r : ℕ) (info : RegionInfo)
     → slice_get s.regions r ≡ Some info → info.stakes ≡ 0
 all_unstaked code s fine ended r info e =
@@ -180,7 +181,7 @@ stakes_counted code s fine = record {
       no_stakes h.stakes (ended_unstaked code s g h fine i n);
 }
 
--- where all have ended, each region that was made is removed
+-- if all have ended, each region that was made is removed
 pub all_removed : (code : Code) (s : RegionState) → Fine code s → AllEnded s
     → (counts_of s).made ≡ (counts_of s).removed
 all_removed code s fine ended = sym (count_all s.regions (all_unstaked code s fine ended))

@@ -1,4 +1,5 @@
--- A meeting at a channel keeps what holds of the state: each side continues as after an instruction of its own.
+-- A meeting at a channel keeps what holds of the state: each side continues as after an instruction of its own. It is proved as two
+-- such steps in a row, through a state between them (`mid`) to which no event leads.
 use Rattle.std.proofs.Common.{◌≡◌, ℕ, false, List, [], ◌∷◌, length, Some, refl, sym, ap, ◌∙◌, subst, nat_eq, slice_get}
 use Rattle.std.proofs.Common.{slice_set}
 use Rattle.rgo_sound.proofs.Places.{get_set_other, get_set_same, length_set}
@@ -21,7 +22,7 @@ side_good code h frames next x rules none good =
     (frame_goes code x.frame x.frame' x.callers x.instr h h.environments h.duties rules x.cur x.simple none g.core
     g.base_once g.fit g.shares x.function x.edge)
 
--- both sides have gone on, from holders that owe nothing
+-- both sides have continued, from holders that owe nothing
 module _ (code : Code) (s : RegionState) (r u : ℕ) (fine : Fine code s) (rules : IsRuled code) (a b a' b' : List TacFrame)
     (ne : nat_eq r u ≡ false) (qa : slice_get s.plain.goroutines r ≡ Some a)
     (qb : slice_get s.plain.goroutines u ≡ Some b) (x : OnFrom code a a') (y : OnFrom code b b') (h k : Holder)
@@ -30,7 +31,7 @@ module _ (code : Code) (s : RegionState) (r u : ℕ) (fine : Fine code s) (rules
     abbrev k' : Holder
     k' = record k { offer = taken_offer k.offer }
 
-    -- between the two
+    -- between the two: the receiver has continued, and the sender has not
     abbrev mid : RegionState
     mid = record s {
       plain = record s.plain { goroutines = slice_set s.plain.goroutines r a' };

@@ -1,4 +1,8 @@
--- Offers: a standing one is that of the send of its goroutine, and one that was taken is on a live channel.
+-- Offers: an open one is that of the send of its goroutine, and one that was taken is on a live channel.
+-- The goroutine of an open offer can still do one thing by itself: its send traps if the channel was closed in the meantime. It never
+-- goes through by itself, since a channel without a buffer stays one (`Steady`, `sends_trap`). When an offer is taken, the variable of
+-- the channel is live, so the sender has a stake in its region; until the acknowledgement the sender has no step that could end it.
+-- Offers need all other parts of the invariant, so the whole of it is put together at the end of this file (`all_good_step`).
 use Rattle.std.proofs.Common.{◌≡◌, ℕ, zero, suc, ◌+◌, ◌==◌, Bool, true, false, List, [], ◌∷◌, ◌++◌, map, length, Option}
 use Rattle.std.proofs.Common.{Some, None, refl, sym, ap, ◌∙◌, subst, nat_eq, nat_lt, if◌then◌else◌, arith, true≢false}
 use Rattle.std.proofs.Common.{slice_get, slice_set, option_map, option_and_then, ◌⊎◌, inl, inr, Contains}
@@ -77,7 +81,7 @@ use Rattle.rgo_typed.specs.declared.programs.Struct.{Struct}
 use Rattle.rgo_typed.specs.declared.types.Type.{«Type»}
 use Rattle.rgo_memory.specs.declared.values.Value.TheVariants as value
 
--- ---- what an operation on one object leaves has the capacity of the object
+-- ---- an operation on one object keeps its capacity
 
 abbrev KeepsCapacity : Object → Outcome Object → Type 0
 KeepsCapacity old (Does new v) = channel_capacity new ≡ channel_capacity old
@@ -129,7 +133,7 @@ shut_keeps (Channel capacity queue false) = refl
 -- ---- a channel without a buffer stays one
 
 module _ (m : Memory) (b : Bool) where
-  -- a channel without a buffer stays one, and the heap grows only where b says so
+  -- a channel without a buffer stays one, and the heap grows only if b is true
   abbrev Steady : Effect → Type 0
   Steady (Does m' v) = ((o : ℕ) → IsUnbuffered m o → IsUnbuffered m' o) × (b ≡ false → length m'.heap ≡ length m.heap)
   Steady (Traps trap) = Unit {0}
@@ -343,7 +347,7 @@ abbrev pub makes_at : CodeOp → Bool
 makes_at (Do to action from removes) = makes_object action
 makes_at op = false
 
--- a channel without a buffer stays one, and the heap grows only where b says so
+-- a channel without a buffer stays one, and the heap grows only if b is true
 abbrev pub SteadyActed : Memory → Bool → Acted → Type 0
 SteadyActed m b a = ((o : ℕ) → IsUnbuffered m o → IsUnbuffered a.memory o)
     × (b ≡ false → length a.memory.heap ≡ length m.heap)
@@ -376,7 +380,7 @@ module _ (code : Code) (m : Memory) where
   acts_steady (Return value) place frame [] = ((λ o u. u), λ f. refl)
   acts_steady (Return value) place frame (caller ∷ callers) = ((λ o u. u), λ f. refl)
 
-  -- an instruction keeps channels, and makes an object only where it is one that does
+  -- an instruction keeps channels without a buffer, and the heap grows only if the instruction makes an object
   pub alone_steady : (frame : TacFrame) (callers : List TacFrame) (instr : CodeInstr) → current code frame ≡ Some instr
       → Always (SteadyActed m (makes_at instr.op)) (alone (erased code) m (frame ∷ callers))
   alone_steady frame callers instr cur = subst (λ o. Always (SteadyActed m (makes_at instr.op))
@@ -540,7 +544,7 @@ offers_at s frame (Return value) o q = cc
 
 -- ---- each step
 
--- an instruction changes no offer
+-- an instruction changes no offer; only a meeting takes one
 pub after_offer : (code : Code) (k : Holder) (frame : TacFrame) (callers : List TacFrame) (op : CodeOp) (next : List TacFrame)
     → (holder_after code k frame callers op next).offer ≡ k.offer
 after_offer code k frame callers (Do to action from removes) next = refl
@@ -557,7 +561,7 @@ unless_offer None before after h = h
 unless_offer (Some Exit) before after h = h
 unless_offer (Some (Trap kind place)) before after h = refl
 
--- a goroutine that stands at a send, from another view of its frames
+-- a goroutine whose next instruction is a send, if its frames are known in another form
 pub at_send : (code : Code) (p : TacState) (g o : ℕ) (st : StandsAtSend code p g o) (frame : TacFrame)
     (callers : List TacFrame) (instr : CodeInstr) → frames_of p g ≡ frame ∷ callers → current code frame ≡ Some instr
     → (instr.op ≡ Do st.to Send (st.channel ∷ st.sent ∷ []) st.removes) × (value_at frame st.channel ≡ value.Object o)
@@ -570,7 +574,7 @@ at_send code p g o st frame callers instr q cur =
 abbrev trapped_there : Memory → List TacFrame → End → Acted
 trapped_there m frames e = record { memory = m; frames = frames; started = []; printed = []; trap = Some e }
 
--- at a channel without a buffer a send by itself only traps
+-- at a channel without a buffer a send by itself only traps: if the channel is open, the buffer has no room, and there is no step
 sends_trap : (m : Memory) (frame : TacFrame) (callers : List TacFrame) (to : Option ℕ) (place : ℕ) (o : ℕ) (w : Value)
     (a : Acted) → IsUnbuffered m o → effected m frame callers to place (option_map silent (send m (value.Object o) w))
     ≡ Some a → (kind : TrapKind) × (a ≡ trapped_there m (frame ∷ callers) (Trap kind place))
@@ -645,7 +649,8 @@ module _ (code : Code) (s : RegionState) (old : OffersFit code s) where
           (subst (λ i. OfferFits code s i k k.offer) (eq_of g j t) new))
           (λ n. old.fits j x (sym (get_set_other s.holders g j k n) ∙ q))
 
-  -- a goroutine that owes something and may go on has no offer
+  -- a goroutine that owes something and has nothing to acknowledge has no offer: with an open one it would owe nothing. So a duty never
+  -- meets an open offer.
   no_offer : (g : ℕ) (h : Holder) (d : Duty) (ds : List Duty) → slice_get s.holders g ≡ Some h → may_go h.offer ≡ true
       → h.duties ≡ d ∷ ds → h.offer ≡ NoOffer
   no_offer g h d ds e m q = go h.offer m (old.fits g h e)
@@ -934,7 +939,7 @@ module _ (code : Code) (s : RegionState) (old : OffersFit code s) where
       frames_u : frames_of s.plain u ≡ x.sends.frame ∷ x.sends.callers
       frames_u = ap frames_in x.at_u ∙ x.sends.at
 
-      -- a receiver has no offer
+      -- the receiver has no offer: its next instruction is not a send
       receiver : x.h.offer ≡ NoOffer
       receiver = go x.h.offer refl (old.fits r x.h x.there_h)
         where
@@ -950,7 +955,7 @@ module _ (code : Code) (s : RegionState) (old : OffersFit code s) where
               absurd (clash st.to x.receives.to (st.channel ∷ st.sent ∷ []) (x.receives.channel ∷ []) st.removes
               x.receives.removes (sym z.0 ∙ x.receives.is))
 
-      -- a sender's channel is in a region with its stake
+      -- the sender's channel is in Global or in a region in which it has a stake: the variable of the channel is live before the send
       sender : (offer : Offer) → x.k.offer ≡ offer → OfferFits code s u x.k offer
           → OfferFits code t u (record (gone_on (send_goes x.sends) x.k) { offer = taken_offer x.k.offer })
           (taken_offer offer)

@@ -1,4 +1,5 @@
--- The three-address machine's part of a region run has never ended: an end is a mark, and steps may follow it.
+-- The three-address machine's part of a region run has never ended: an end is a mark, and steps may follow it. It follows from the form
+-- of the step: `plain_after` clears the end each time.
 use Rattle.std.proofs.Common.{ℕ, refl, ap, ◌∙◌}
 use Rattle.rgo_code.specs.Code.{Code}
 use Rattle.rgo_region_machine.specs.Machine.{Acknowledge, Attend, Event, Finish, Instruct, MakeOffer, TakePage, region_step}

@@ -1,4 +1,7 @@
 -- A region step keeps the plain state, and an instruction makes a step of it: the law of erasure.
+-- `Yields P o` says that P holds of the state in o, if there is one. A step is a chain of tests and look-ups; with the lemmas on
+-- `Yields` a proof follows that chain without naming what is between. The law itself is an induction over the events. From the end mark
+-- on, print and mark stay (`Over`), so the rest of the run adds no pick.
 use Rattle.std.proofs.Common.{◌≡◌, ℕ, Bool, true, false, List, [], ◌∷◌, ◌++◌, Option, Some, None, refl, sym, ap, ◌∙◌}
 use Rattle.std.proofs.Common.{subst}
 use Rattle.std.proofs.lemmas.Option.{same_Some}
@@ -25,7 +28,7 @@ use Rattle.rgo_sound.specs.Erasure.{Erasure, SameEnd, erased_picks, event_picks}
 use Rattle.rgo_tac.specs.Frames.{TacFrame}
 use Rattle.rgo_tac.specs.Tac.{TacState, tac_step}
 
--- P holds of what o has, if it has something
+-- P holds of the value of o, if it has one
 abbrev pub Always : {X : Type 0} → (X → Type 0) → Option X → Type 0
 Always P None = Unit {0}
 Always P (Some x) = P x
@@ -58,13 +61,13 @@ pub yields_with : {X Y : Type 0} {P : Y → Type 0} (Q : X → Type 0) (f : X �
 yields_with Q f None y h = record { fact = tt }
 yields_with Q f (Some x) y h = h x y.fact
 
--- a step that is done only where a test is true
+-- a step that is done only if a test is true
 pub yields_where : {Y : Type 0} {P : Y → Type 0} (b : Bool) (o : Option Y) → (b ≡ true → Yields P o)
     → Yields P (if b then o else None)
 yields_where true o h = h refl
 yields_where false o h = record { fact = tt }
 
--- what follows from what holds of o's value
+-- from what holds of the value of o to what follows from it
 pub yields_from : {X : Type 0} → {P Q : X → Type 0} → (o : Option X) → Yields P o → ((x : X) → P x → Q x) → Yields Q o
 yields_from None y f = record { fact = tt }
 yields_from (Some x) y f = record { fact = f x y.fact }
@@ -156,7 +159,7 @@ kept_acknowledge s g h NoOffer = yields_none
 kept_acknowledge s g h (Standing o) = yields_none
 kept_acknowledge s g h (Taken o) = yields_if _ _ _ (same s _ refl refl) yields_none
 
--- t is s after an instruction that led the plain machine to next
+-- t is s after an instruction that led the three-address machine to next
 pub record Instructs (s : RegionState) (next : TacState) (t : RegionState) : Type 0 where
   pub plain : t.plain ≡ plain_after s next
   pub mark : t.mark ≡ mark_with_end s.mark next.ended
@@ -230,7 +233,7 @@ step_follows code page_words s (Acknowledge g) = yields_then {X = Holder} (λ h.
     (slice_get s.holders g) (λ h. kept_acknowledge s g h h.offer)
 step_follows code page_words s (Finish limit) = record { fact = (refl, refl) }
 
--- what is printed and the mark of a run that is over stay
+-- once a run is over, what is printed and the mark stay
 record Over (s t : RegionState) (end : Mark) : Type 0 where
   printed : t.plain.printed ≡ s.plain.printed
   mark : t.mark ≡ Some end
@@ -288,7 +291,7 @@ module _ (code : Code) (page_words : ℕ) where
       go None y next = refl
       go (Some s') y next = next s' (over_here s s' event code page_words end m y.fact).mark
 
-  -- the picks lead the plain machine from the state to one with the print and the end of t
+  -- the picks lead the three-address machine from the state to one with the print and the end of t
   record Erases (from : TacState) (picks : List Pick) (t : RegionState) : Type 0 where
     state : TacState
     leads : run (tac_step (erased code)) from picks ≡ Some state

@@ -1,4 +1,7 @@
 -- Each action keeps pointers in their regions; its value leads into the region of its variable's class.
+-- What is read from an object leads into the object's region, and the variable that takes it is joined with the one that was followed
+-- (rules 4 and 5), so both have one class. What is written into an object is joined with it in the same way. A new object is made in
+-- the region of the variable that takes it, and has no pointers yet.
 use Rattle.std.proofs.Common.{◌≡◌, ◌≢◌, ℕ, zero, suc, ◌+◌, ◌<◌, Bool, true, false, List, [], ◌∷◌, ◌++◌, map, length}
 use Rattle.std.proofs.Common.{Option, Some, None, refl, sym, ap, ◌∙◌, subst, nat_eq, nat_lt, if◌then◌else◌, arith, ◌⊎◌}
 use Rattle.std.proofs.Common.{inl, inr, slice_get, slice_set, length-append, Contains, append-nil}
@@ -54,9 +57,9 @@ use Rattle.rgo_typed.specs.declared.types.Base.TheVariants as base
 use Rattle.rgo_typed.specs.declared.types.Layer.{Layer}
 use Rattle.rgo_typed.specs.declared.types.Type.{«Type»}
 
--- ---- values that are no pointers
+-- ---- values that are not pointers
 
--- such a value leads into every region; operators, tests, lengths and zeros give no other
+-- such a value leads into every region; operators, tests, lengths and zeros return no other
 abbrev pub IsPlain : Value → Type 0
 IsPlain (value.Int i) = Unit {0}
 IsPlain (value.Bool b) = Unit {0}
@@ -174,12 +177,12 @@ element_zero_plain (l ∷ ls) b = zero_in_plain ls b
 element_into : (owners : List Region) (r : Region) (ty : «Type») → LeadsInto owners r (element_zero ty)
 element_into owners r ty = into_plain owners r (element_zero ty) (element_zero_plain ty.layers ty.base)
 
--- the cells of a new struct
+-- the cells of a new struct are zeros, so they lead into any region
 zeros_into : (owners : List Region) (r : Region) (tys : List «Type») → Each (LeadsInto owners r) (map zero_of tys)
 zeros_into owners r [] = tt
 zeros_into owners r (ty ∷ tys) = (into_plain owners r (zero_of ty) (zero_plain ty), zeros_into owners r tys)
 
--- a cell, or nil where there is none
+-- a cell, or nil if there is none
 nth_into : (owners : List Region) (r : Region) (cells : List Value) (k : ℕ) → Each (LeadsInto owners r) cells
     → LeadsInto owners r (or_nil (slice_get cells k))
 nth_into owners r [] k all = tt
@@ -188,7 +191,7 @@ nth_into owners r (v ∷ vs) (suc k) all = nth_into owners r vs k all.1
 
 -- ---- more objects
 
--- a step that makes an object adds an owner: pointers that are there lead where they led
+-- a step that makes an object adds an owner at the end: existing pointers lead where they led
 more_into : (owners given : List Region) (r : Region) (v : Value) → LeadsInto owners r v
     → LeadsInto (owners ++ given) r v
 more_into owners given r (value.Int i) h = tt
@@ -225,7 +228,7 @@ home_into owners names c r (value.Bool b) e h = tt
 home_into owners names c r value.Nil e h = tt
 home_into owners names c r (value.Object o) e (q, e', w) = w ∙ (sym e' ∙ e)
 
--- a value that is no pointer leads home, whatever the class
+-- a value that is not a pointer leads home, whatever the class
 pub home_of_plain : (owners : List Region) (names : Bindings) (c : Class) (v : Value) → IsPlain v
     → LeadsHome owners names c v
 home_of_plain owners names c (value.Int i) p = tt
@@ -234,7 +237,7 @@ home_of_plain owners names c value.Nil p = tt
 home_of_plain owners names c (value.Object o) p = absurd p
 
 module _ (fn : CodeFn) (names : Bindings) where
-  -- a pointer of the one class is one of the other, where the two are joined
+  -- a pointer of the one class is one of the other, if the two are joined
   pub joined_home : (owners : List Region) (c d : Class) (v : Value) → (c ≢ NoClass → d ≢ NoClass → c ≡ d)
       → ((o : ℕ) → v ≡ value.Object o → c ≢ NoClass) → LeadsHome owners names d v → LeadsHome owners names c v
   joined_home owners c d (value.Int i) j n h = tt
@@ -249,19 +252,19 @@ module _ (fn : CodeFn) (names : Bindings) where
   HomeAfter owners (Some d) v = ((o : ℕ) → v ≡ value.Object o → class_of fn d ≢ NoClass)
       → LeadsHome owners names (class_of fn d) v
 
-  -- a value that is no pointer leads home
+  -- a value that is not a pointer leads home
   pub plain_home : (owners : List Region) (d : Option ℕ) (v : Value) → IsPlain v → HomeAfter owners d v
   plain_home owners None v p = tt
   plain_home owners (Some d) v p = λ n. home_of_plain owners names (class_of fn d) v p
 
--- the two that are joined have one class, if they have classes
+-- two that are joined have one class, if both have one: an `int` that is joined with a pointer has none, and needs none
 abbrev pub ClassesAgree : CodeFn → Option (Member × Member) → Type 0
 ClassesAgree fn pair = (x y : Member) → pair ≡ Some (x, y) → member_class fn x ≢ NoClass → member_class fn y ≢ NoClass
     → member_class fn x ≡ member_class fn y
 
 module _ (fn : CodeFn) (names : Bindings) (owners : List Region) (m : Memory) (home : MemoryHome owners m)
     (region : Option Region) (to : Option ℕ) where
-  -- what an action leaves, whatever owners it gave
+  -- what an action leaves, whatever owner the machine gave to a new object
   abbrev pub Moved : Effect → Type 0
   Moved (Does m' v) = (given : List Region) → Allots region (slice_get m'.heap (length m.heap)) given
       → MemoryHome (owners ++ given) m' × HomeAfter fn names (owners ++ given) to v
@@ -282,7 +285,7 @@ module _ (fn : CodeFn) (names : Bindings) (owners : List Region) (m : Memory) (h
       let same : owners ++ given ≡ owners = ap (λ x. owners ++ x) none ∙ append-nil owners in
       (subst (λ x. MemoryHome x m') (sym same) home', subst (λ x. HomeAfter fn names x to v) (sym same) h)
 
-  -- the memory stays, and the value is no pointer
+  -- the memory stays, and the value is not a pointer
   gives : (v : Value) → IsPlain v → Moved (Does m v)
   gives v p = still m v home refl (plain_home fn names owners to v p)
 
@@ -290,7 +293,7 @@ module _ (fn : CodeFn) (names : Bindings) (owners : List Region) (m : Memory) (h
   by_answer (Ok v) p = gives v p
   by_answer (Err trap) p = tt
 
-  -- the value that it gives is dropped
+  -- the value that it returns is dropped
   silences : (e : Effect) → Moved e → Moved (silent e)
   silences (Does m' v) h = λ given allots. ((h given allots).0, plain_home fn names (owners ++ given) to value.Nil tt)
   silences (Traps trap) h = tt
@@ -303,7 +306,7 @@ module _ (fn : CodeFn) (names : Bindings) (owners : List Region) (m : Memory) (h
   abbrev First : ℕ → Type 0
   First a = (d : ℕ) → to ≡ Some d → class_of fn d ≢ NoClass → class_of fn a ≢ NoClass → class_of fn d ≡ class_of fn a
 
-  -- so says the rule on what is joined, of each action that reads
+  -- this is the rule on joins, for each action that reads
   first_of : (action : Action) (a : ℕ) (from : List ℕ) → ((d : ℕ) → action_joins action (Some d) from ≡ joined_variables d a)
       → ClassesAgree fn (action_joins action to from) → First a
   first_of action a from is j d e = j (member.Variable d) (member.Variable a)
@@ -317,7 +320,7 @@ module _ (fn : CodeFn) (names : Bindings) (owners : List Region) (m : Memory) (h
       go None j = tt
       go (Some d) j = λ n. joined_home fn names owners (class_of fn d) (class_of fn a) v (j d refl) n h
 
-  -- what stands in the object to which a variable leads
+  -- a cell of the object to which a variable leads
   cell_home : (a : ℕ) (o : ℕ) (object : Object) (v : Value) → slice_get m.heap o ≡ Some object
       → LeadsHome owners names (class_of fn a) (value.Object o)
       → ((r : Region) → Each (LeadsInto owners r) (cells_of object) → LeadsInto owners r v)
@@ -357,7 +360,7 @@ module _ (fn : CodeFn) (names : Bindings) (owners : List Region) (m : Memory) (h
   ChangedIf o old None = Unit {0}
   ChangedIf o old (Some outcome) = Changed o old outcome
 
-  -- it stays, and nil is given
+  -- the object stays, and the value is nil
   stays : (o : ℕ) (old : Object) → Changed o old (Does old value.Nil)
   stays o old = ((λ r w all. all), plain_home fn names owners to value.Nil tt)
 
@@ -611,7 +614,7 @@ module _ (fn : CodeFn) (names : Bindings) (owners : List Region) (m : Memory) (h
       into (value.Object o) k = home_into owners names (class_of fn a) GlobalRegion (value.Object o)
           (global_region (class_of fn a) (g (has_class owners names (class_of fn a) o k))) k
 
-  -- so says the rule on what is joined, of the variable that gets a package variable, and of the one that sets one
+  -- this is the rule on joins, for the variable that gets a package variable, and for the one that sets one
   global_first : (n : ℕ) → ClassesAgree fn (action_joins (action.Get n) to []) → (d : ℕ) → to ≡ Some d
       → class_of fn d ≢ NoClass → class_of fn d ≡ Global
   global_first n j d e c = j (member.Variable d) member.Global (ap (λ t. action_joins (action.Get n) t []) e) c has
@@ -628,7 +631,7 @@ module _ (fn : CodeFn) (names : Bindings) (owners : List Region) (m : Memory) (h
 
   -- ---- new objects
 
-  -- it is made in the region of the variable that is written, and has no pointers yet
+  -- it is made in the region of the variable that is written, and has no pointers yet; so no class of another variable has to agree
   module _ (for_target : region ≡ class_region names (target_class (Some fn) to)) where
     makes : (object : Object) → ((r : Region) (w : List Region) → Each (LeadsInto w r) (cells_of object))
         → Moved (made m object)
@@ -834,7 +837,7 @@ module _ (fn : CodeFn) (names : Bindings) (frame : TacFrame) (owners : List Regi
   performs action (a ∷ b ∷ c ∷ []) joins reads = with_three action a b c joins reads
   performs action (a ∷ b ∷ c ∷ d ∷ more) joins reads = gives fn names owners m home (region_for action) to value.Nil tt
 
-  -- where the variables that it reads lead home, each action leaves a memory at home and a value that leads home
+  -- if the variables that it reads lead home, each action leaves a memory at home and a value that leads home
   pub homes : (action : Action) (from : List ℕ) → ClassesAgree fn (action_joins action to from)
       → ((v : ℕ) → Contains from v → LeadsHome owners names (class_of fn v) (value_at frame v))
       → MovedIf fn names owners m home (region_for action) to (performed structs action ty (operand_values frame from) m)

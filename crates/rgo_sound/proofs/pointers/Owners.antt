@@ -1,4 +1,5 @@
--- The owner of an object is a region that was created.
+-- The owner of an object is a region that was created. For a new object it is a region that a class of the frame denotes; the goroutine
+-- has a stake in that, so it is live, and what is live was created.
 use Rattle.std.proofs.Common.{◌≡◌, ◌⊎◌, ℕ, zero, suc, ◌<◌, ◌≤◌, true, List, [], ◌∷◌, length, Option, Some, None, refl, sym, ap, ◌∙◌, subst, inl, inr}
 use Rattle.std.proofs.Common.{slice_get, arith, length-append, le_refl, true≢false}
 use Rattle.std.proofs.lemmas.Option.{slice_get_within}
@@ -92,7 +93,7 @@ module _ (s : RegionState) (made : OwnersMade s) where
   by_acknowledge g h (Taken o) = yields_if _ _ _ (grows _ refl (le_refl _)) yields_none
 
   module _ (code : Code) (page_words : ℕ) (good : AllGood code s) where
-    -- an object is made in a region that is there
+    -- an object is made in a region that was created
     by_instruction : (g : ℕ) (t : RegionState) → OneDone code page_words s g t → OwnersMade t
     by_instruction g t x = subst OwnersMade (sym x.is) (λ o r e. by o r (get_append_cases s.owners x.given.1 o (Numbered r) e))
       where

@@ -1,4 +1,8 @@
 -- Each step of the region machine keeps pointers in their regions.
+-- A duty changes names and no memory. It has to leave the regions of all live variables (`Change`), and does: by `IsReady` the name
+-- that it binds or unbinds is not held there. An instruction is the work of Variables and Actions. The hard case is a meeting, which
+-- moves a value from the names of one goroutine to those of another: the region of the channel, which both names denote, links the two
+-- (`values_meet`).
 use Rattle.std.proofs.Common.{◌≡◌, ◌≢◌, ℕ, zero, suc, ◌+◌, false, List, [], ◌∷◌, ◌++◌, map, length, get_or, Option}
 use Rattle.std.proofs.Common.{Some, None, refl, sym, ap, ◌∙◌, subst, nat_eq, if◌then◌else◌, arith, slice_get, slice_set}
 use Rattle.std.proofs.Common.{append-nil, ◌⊎◌, inl, inr, Contains}
@@ -65,9 +69,9 @@ use Rattle.rgo_tac.specs.declared.regions.Member.TheVariants as member
 use Rattle.rgo_typed.specs.declared.actions.Action.TheVariants.{Recv, Send}
 use Rattle.rgo_typed.specs.declared.programs.Variable.{Variable}
 
--- ---- the environments behind an instruction
+-- ---- the environments after an instruction
 
--- they are those of the holder behind it, whether it trapped or not: a trap leaves them as they were
+-- they are those of the holder after it, whether it trapped or not: a trap leaves them as they were
 unless_environments : (g : ℕ) (frames : List TacFrame) (trap : Option End) (before after : Holder)
     → Always (λ e. after.environments ≡ before.environments) trap
     → (unless_trapped (end_by g frames trap) before after).environments ≡ after.environments
@@ -87,7 +91,7 @@ after_environments code k frame callers (Jump j removes) next = refl
 after_environments code k frame callers (Branch v j removes k' others) next = refl
 after_environments code k frame callers (Return value) next = refl
 
--- ---- what stands at the top
+-- ---- the newest frame
 
 -- the environment of the top frame, which fits it, and those of its callers
 pub record Top (code : Code) (h : Holder) (frame : TacFrame) (callers : List TacFrame) : Type 0 where
@@ -463,9 +467,8 @@ module _ (code : Code) (s : RegionState) (values : ValuesStay code s) where
 
   -- ---- a meeting
 
-  -- The value comes from the region of the channel, by the sender's names and by the receiver's; so it leads home in
-  -- the
-  -- receiver.
+  -- What is sent is joined with the channel in the sender, and what is received in the receiver. So the value leads into the region of
+  -- the channel by the names of either, and it leads home in the receiver.
   values_meet : (r u : ℕ) (t : RegionState) → IsChecked code → Fine code s → AreValuesTyped code s.plain → MeetDone code s r u t
       → ValuesStay code t
   values_meet r u t checked fine typed x =
@@ -569,7 +572,7 @@ module _ (code : Code) (s : RegionState) (values : ValuesStay code s) where
               (ap (λ t. action_joins Recv t (x.receives.channel ∷ [])) e))
               n came_home
 
-      -- the types behind the meeting
+      -- the types after the meeting
       rec : ReceiveFits code checked typed.kinds x.c x.go_on
       rec = receive_fits code checked typed.kinds x.receiver x.c x.go_on (typed.frames r x.receiver x.at_r) x.receives
 
@@ -610,7 +613,7 @@ module _ (code : Code) (s : RegionState) (values : ValuesStay code s) where
           (ap (λ op. writes (erased_op op)) x.receives.is) (λ d o t e. classed d o e)
           (subst (λ o. HomeAfter top_r.stands.fn top_r.f.names o x.receives.to x.v) (sym same_owners) received))))
 
-      -- a sender goes on with nil, if with anything
+      -- a send returns nil, if it writes a variable at all
       no_object : (d o : ℕ) → x.sends.to ≡ Some d → value_at (frame_after_instr x.sends.frame x.sends.to value.Nil) d
           ≡ value.Object o → ⊥
       no_object d o t e = no_object_set x.sends.frame.variables d o
@@ -786,7 +789,7 @@ values_start code checked =
 
 -- ---- every run
 
--- the whole invariant but for offers: at the start, and behind each step
+-- the whole invariant but for offers: at the start, and after each step
 pub good_step : (code : Code) (page_words : ℕ) (s : RegionState) (event : Event) → IsChecked code → Ascends code
     → Good code s → Yields (Good code) (region_step code page_words s event)
 good_step code page_words s event checked written good =

@@ -1,4 +1,9 @@
--- Where the variables of frames lead, after each instruction.
+-- Where the variables of frames lead, after each instruction. Only live variables count, so most instructions have to show something of
+-- one variable: the one that they write.
+-- The hard cases are those with two frames. A callee's parameters lead home by its own names, which denote what was passed for them
+-- (`formal_home`). The waiting caller keeps the names that are live after the call, as they are protected if they are passed
+-- (`behind_kept`). The result comes back into the region that the caller lent, which is that of the variable that waits for it
+-- (`linked`, `returned_leads`).
 use Rattle.std.proofs.Common.{◌≡◌, ◌≢◌, ℕ, zero, suc, ◌+◌, ◌<◌, Bool, true, false, ◌&&◌, ◌||◌, List, [], ◌∷◌, ◌++◌, map}
 use Rattle.std.proofs.Common.{length, drop, get_or, Option, Some, None, refl, sym, ap, ◌∙◌, subst, nat_eq}
 use Rattle.std.proofs.Common.{if◌then◌else◌, arith, ◌⊎◌, inl, inr, true≢false, slice_get, slice_set, option_map}
@@ -120,7 +125,7 @@ names_lead code owners frame callers f fs fn is lends names protections same lea
     rest (caller ∷ callers) [] h = h
     rest (caller ∷ callers) (d ∷ ds) h = (h.0, (λ g call to is cur t n. lent ∙ h.1 g call to is cur t n), h.2)
 
--- with more owners, as behind a step that makes an object, everything leads where it led
+-- with more owners, as after a step that makes an object, everything leads where it led
 more_callers : (code : Code) (owners given : List Region) (f : RegionEnvironment) (callers : List TacFrame)
     (fs : List RegionEnvironment) → CallersLead code owners f callers fs → CallersLead code (owners ++ given) f callers fs
 more_callers code owners given f [] [] h = tt
@@ -159,13 +164,13 @@ still_memory owners given m region home allots = subst (λ x. MemoryHome x m)
 
 -- ---- values by number
 
--- a variable is read as a cell of the list, or nil where there is none
+-- a variable is read as a cell of the list, or nil if there is none
 value_is : (vs : List Value) (i : ℕ) → get_or vs i value.Nil ≡ or_nil (slice_get vs i)
 value_is [] i = refl
 value_is (x ∷ xs) zero = refl
 value_is (x ∷ xs) (suc i) = value_is xs i
 
--- after a write: the value, or nil where the list is too short
+-- after a write: the value, or nil if the list is too short
 value_set : (vs : List Value) (d : ℕ) (v : Value) → (get_or (slice_set vs d v) d value.Nil ≡ v)
     ⊎ (get_or (slice_set vs d v) d value.Nil ≡ value.Nil)
 value_set [] d v = inr refl
@@ -177,7 +182,7 @@ value_other : (vs : List Value) (d x : ℕ) (v : Value) → nat_eq d x ≡ false
 value_other vs d x v n = value_is vs x ∙ ap or_nil (sym (get_set_other vs d x v n))
     ∙ sym (value_is (slice_set vs d v) x)
 
--- what is set to nil is no pointer
+-- what is set to nil is not a pointer
 pub no_object_set : (vs : List Value) (d o : ℕ) → get_or (slice_set vs d value.Nil) d value.Nil ≡ value.Object o → ⊥
 no_object_set vs d o e = go (value_set vs d value.Nil)
   where
@@ -189,7 +194,7 @@ no_object_set vs d o e = go (value_set vs d value.Nil)
     go (inl q) = clash (sym q ∙ e)
     go (inr q) = clash (sym q ∙ e)
 
--- what is no pointer at each place of a list
+-- a list without pointers has none at any place
 pub plain_at : (vs : List Value) (v : ℕ) → Each IsPlain vs → IsPlain (get_or vs v value.Nil)
 plain_at [] v h = tt
 plain_at (x ∷ xs) zero h = h.0
@@ -197,7 +202,7 @@ plain_at (x ∷ xs) (suc v) h = plain_at xs v h.1
 
 -- ---- pointers and classes
 
--- a variable that has a pointer has a class
+-- a variable that has a pointer has a class: its type is pointer-like, and rule 3 wants a class then. Here the part on types is used.
 pub ref_class : (kinds : List «Type») (fn : CodeFn) (frame : TacFrame)
     → ((v : ℕ) (s : Slot) → slice_get fn.variables v ≡ Some s → SlotClassFitsType s)
     → HaveKinds kinds (erased_fn fn).variables frame.variables → (v o : ℕ) → value_at frame v ≡ value.Object o
@@ -287,7 +292,7 @@ joins_agree code checked n i fn instr is_fn at to action from removes is x y e c
     of_object t = (let j : JoinsAgree fn (Do to action from removes) =
         subst (JoinsAgree fn) is (checked rule.Joins (line.Instr n i) fn instr is_fn at) in j t)
 
--- a name of a callee stands for what was passed at its place
+-- a name of a callee denotes what was passed at its place
 passed_at : (names : Bindings) (formals regions : List Class) (p m : ℕ) (c : Class) → AreFormals formals
     → slice_get formals p ≡ Some (Name m) → slice_get regions p ≡ Some c
     → bound (passed formals (passed_regions names regions)) m ≡ class_region names c
@@ -349,7 +354,7 @@ formal_home owners names formals regions c actual (value.Object o) f fits place 
 
 -- ---- what a goroutine does
 
--- the environments behind an instruction
+-- the environments after an instruction
 abbrev pub environments_after : Code → List RegionEnvironment → CodeOp → List RegionEnvironment
 environments_after code environments (Call to n from passes protects removes) =
     environment_of (function_result_class (code_function code n)) (passed (formals_of (code_function code n))
@@ -379,7 +384,7 @@ pub record ActedLeads (code : Code) (environments : List RegionEnvironment) (op 
     Type 0 where
   pub memory : MemoryHome owners a.memory
   pub frames : FramesLead code owners a.frames (environments_after code environments op)
-  -- a trap leaves the environments
+  -- a trap leaves the environments as they were
   pub calm : Always (λ e. environments_after code environments op ≡ environments) a.trap
   pub children : Each (λ (child : List TacFrame). FramesLead code owners child
       (child_environment code environments op ∷ [])) a.started
@@ -400,7 +405,7 @@ home_of_nil owners names c (value.Bool b) e = tt
 home_of_nil owners names c value.Nil e = tt
 home_of_nil owners names c (value.Object o) e = cc
 
--- zeros are no pointers
+-- zeros are not pointers
 pub zeros_plain : (tys : List «Type») → Each IsPlain (map zero_of tys)
 zeros_plain [] = tt
 zeros_plain (ty ∷ tys) = (zero_plain ty, zeros_plain tys)
@@ -446,7 +451,7 @@ module _ (code : Code) (checked : IsChecked code) (owners : List Region) (m : Me
       → LeadsHome owners f.names (class_of fn v) (value_at frame v)
   reads_home v r = lead.0 fn is_fn v (live_read fn frame.next v instr instr_here r)
 
-  -- the frame goes on along an edge, with the value of a variable written
+  -- the frame continues along an edge, with the value of a variable written
   pub goes_on : (given : List Region) (to : Option ℕ) (v : Value) (i : ℕ) (removes : List ℕ)
       → Contains {X = ℕ × List ℕ} (edges instr.op frame.next) (i, removes) → writes (erased_op instr.op) ≡ to
       → ((d o : ℕ) → to ≡ Some d → value_at (continued frame to v i) d ≡ value.Object o → class_of fn d ≢ NoClass)
@@ -582,7 +587,7 @@ module _ (code : Code) (checked : IsChecked code) (owners : List Region) (m : Me
             Some (Trap trap place);
       }) a q
 
-  -- a Go or a call enters a function
+  -- a `go` or a call enters a function
   entered_home : (kinds : List «Type») (to : Option ℕ) (n : ℕ) (callee : CodeFn) (from : List ℕ) (passes : List Class)
       (given : List Region) → slice_get code.functions n ≡ Some callee → length from ≡ callee.params
       → PassesClasses fn callee to from passes → ((v : ℕ) → Contains from v → Contains (reads (erased_op instr.op)) v)
@@ -607,7 +612,7 @@ module _ (code : Code) (checked : IsChecked code) (owners : List Region) (m : Me
           (subst (λ (g : CodeFn). HaveKinds kinds (erased_fn g).variables (entering callee n frame from).variables) same
           typed.0.2) v o e
 
-      -- the variables behind the parameters are zero
+      -- the variables after the parameters are zero
       opened : Each IsPlain (map zero_of (erased_fn callee).variables)
       opened = zeros_plain (erased_fn callee).variables
 
@@ -685,7 +690,8 @@ module _ (code : Code) (checked : IsChecked code) (owners : List Region) (m : Me
         none (suc i) e = absurd (not_given ((gives_are code fn callee frame.next to n from passes protects removes
             f.names named rightly.len protects_rightly k).1 (omega (arith, e))))
 
-    -- so do the names that are live behind the call, and that of the result: they are protected
+    -- so do the names that are live after the call, and that of the caller's result: if they are passed, they are protected (rule 10),
+    -- and so not given
     behind_kept : (k : ℕ) → IsLiveName fn k (frame.next + 1) ⊎ (result_class fn ≡ Name k)
         → bound (without_all f.names (given_names (result_class callee) (region_parameters callee) passes protects)) k
         ≡ bound f.names k
@@ -700,7 +706,7 @@ module _ (code : Code) (checked : IsChecked code) (owners : List Region) (m : Me
     edge = subst (λ (op : CodeOp). Contains {X = ℕ × List ℕ} (edges op frame.next) (frame.next + 1, removes)) (sym is)
         (contains_here {X = ℕ × List ℕ} (frame.next + 1, removes) [])
 
-    -- what the caller needs behind the call leads home with the names that are left to it
+    -- what the caller needs after the call leads home with the names that are left to it
     caller_leads : (given : List Region) → CallerLeads code (owners ++ given) frame
         (without_all f.names (given_names (result_class callee) (region_parameters callee) passes protects))
     caller_leads given g call' is' cur' v n l =
@@ -827,7 +833,7 @@ module _ (code : Code) (checked : IsChecked code) (owners : List Region) (m : Me
       like : is_pointer_like_member (erased_fn fn) (member.Variable v) ≡ true
       like = class_pointer_like fn slots (result_fits code checked frame.function fn is_fn) (member.Variable v) n
 
-  -- the caller goes on: its target has what was lent, and the rest led home while it waited
+  -- the caller continues: its target has what was lent, and the rest led home while it waited
   returned_leads : (kinds : List «Type») (back : Option ℕ) (given : List Region) → instr.op ≡ Return back
       → FramesHaveKinds code kinds (frame ∷ callers) → (a : Acted)
       → returned (erased code) m (option_map (value_at frame) back) callers ≡ Some a
@@ -999,7 +1005,7 @@ module _ (code : Code) (checked : IsChecked code) (owners : List Region) (m : Me
 
   -- ---- each instruction
 
-  -- a frame that goes on, with nothing made and nothing written
+  -- a frame that continues, with nothing made and nothing written
   moved_on : (op : CodeOp) → instr.op ≡ op → (i : ℕ) (removes : List ℕ)
       → Contains {X = ℕ × List ℕ} (edges op frame.next) (i, removes) → writes (erased_op op) ≡ None
       → environments_after code (f ∷ fs) op ≡ f ∷ fs → (printed : List ℕ) (a : Acted)
@@ -1019,7 +1025,7 @@ module _ (code : Code) (checked : IsChecked code) (owners : List Region) (m : Me
         children = tt;
       })
 
-  -- the callee that the rules know
+  -- the callee, with what the rules say of it
   record Callee (n : ℕ) (from : List ℕ) : Type 0 where
     callee : CodeFn
     found : code_function code n ≡ Some callee

@@ -1,4 +1,6 @@
 -- What one goroutine does alone, as one record: frames, memory, a started goroutine, printed bytes, a trap.
+-- `alone` is a function of a memory and of frames, and of no other goroutine; so two memories can be compared, as the bound on pages
+-- and the interpreter with its reduced memory need it. That it is the machine's step is `alone_is`.
 use Rattle.std.proofs.Common.{◌≡◌, ℕ, zero, suc, ◌+◌, List, [], ◌∷◌, ◌++◌, Option, Some, None, refl, sym, ap, ◌∙◌}
 use Rattle.std.proofs.Common.{slice_get, slice_set, if◌then◌else◌}
 use Rattle.std.proofs.lemmas.Option.{same_Some}
@@ -33,7 +35,7 @@ pub record Acted : Type 0 where
   pub printed : List ℕ
   pub trap : Option End
 
--- the end that an act brings: its trap, or the exit where `main` has returned
+-- the end that an act causes: its trap, or the exit when `main` has returned
 abbrev pub end_by : ℕ → List TacFrame → Option End → Option End
 end_by g frames (Some e) = Some e
 end_by zero [] None = Some Exit
@@ -68,7 +70,7 @@ prints m frames bytes = Some (record { memory = m; frames = frames; started = []
 abbrev pub traps : Memory → List TacFrame → End → Option Acted
 traps m frames e = Some (record { memory = m; frames = frames; started = []; printed = []; trap = Some e })
 
--- without the value that it gives
+-- without the value that it returns
 abbrev pub silent : Effect → Effect
 silent (Does m v) = Does m value.Nil
 silent (Traps trap) = Traps trap
@@ -86,7 +88,7 @@ effected m frame callers to place None = None
 effected m frame callers to place (Some (Does m' v)) = moves m' (frame_after_instr frame to v ∷ callers)
 effected m frame callers to place (Some (Traps trap)) = traps m (frame ∷ callers) (Trap trap place)
 
--- where it traps; a receive never does
+-- the place of its trap; a receive never traps
 abbrev pub trap_place : Action → ℕ → ℕ
 trap_place action.Recv place = 0
 trap_place action place = place
@@ -124,7 +126,7 @@ abbrev pub act_at : Tac → Memory → Option Instr → TacFrame → List TacFra
 act_at code m None frame callers = moves m (frame ∷ callers)
 act_at code m (Some i) frame callers = act code m i.op i.place frame callers
 
--- the instruction at which the frames are
+-- what the next instruction of these frames does
 abbrev pub alone : Tac → Memory → List TacFrame → Option Acted
 alone code m [] = None
 alone code m (frame ∷ callers) = act_at code m (instr_of code frame) frame callers
@@ -258,7 +260,7 @@ module _ (code : Tac) (s : TacState) (g : ℕ) where
           acts (action.Get n) is vs e = other _ is vs e
           acts (action.Set n) is vs e = other _ is vs e
 
-        -- what it does by itself, where it stands elsewhere
+        -- what it does by itself, if it is neither at a call nor at a start
         by_itself : (op : Op) → i.op ≡ op
             → machine.stepped (tac code) s g frame callers Elsewhere
             ≡ Some (machine.acted (tac code) s g callers (act_of_op code s.memory frame op i.place))

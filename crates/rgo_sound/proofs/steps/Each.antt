@@ -1,4 +1,5 @@
--- Pages, offers, acknowledgements, ends and the start keep what holds of a state; and so does each step.
+-- Pages, offers, acknowledgements, ends and the start keep what holds of a state; and so does each step. These few change neither
+-- stakes nor names, so one lemma is enough for all of them (`same_stakes`); the other steps have files of their own.
 use Rattle.std.proofs.Common.{◌≡◌, ℕ, zero, suc, ◌+◌, ◌<◌, Bool, true, false, List, [], ◌∷◌, ◌++◌, map, length, Option}
 use Rattle.std.proofs.Common.{Some, None, refl, sym, ap, ◌∙◌, subst, nat_eq, if◌then◌else◌, arith, true≢false}
 use Rattle.std.proofs.Common.{slice_get, slice_set, option_map, option_and_then, Contains}

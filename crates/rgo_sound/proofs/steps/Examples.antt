@@ -1,4 +1,4 @@
--- The examples, by computation.
+-- The examples for Leaving, Owners and Running, by computation.
 use Rattle.std.proofs.Common.{◌≡◌, ℕ, zero, suc, inr, [], Some, slice_get, refl, arith}
 use Rattle.rgo_code.specs.Code.{Code}
 use Rattle.rgo_region_machine.specs.Machine.{region_start}

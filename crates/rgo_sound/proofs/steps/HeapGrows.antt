@@ -1,4 +1,6 @@
--- The heap does not shrink, and its objects keep their sizes, whatever one goroutine does alone.
+-- The heap does not shrink, and its objects keep their sizes, whatever one goroutine does alone. It is proved for every sum over the
+-- heap that sees only sizes (`sum_only_grows`): the number of objects is one, and the number of their pages, with which taken pages are
+-- compared, is another.
 use Rattle.std.proofs.Common.{◌≡◌, ℕ, zero, suc, ◌≤◌, ◌+◌, Bool, true, false, List, [], ◌∷◌, ◌++◌, length, Option, Some, None}
 use Rattle.std.proofs.Common.{refl, ap, subst, arith, if◌then◌else◌, max, nat_lt, slice_get, slice_set, sum_by, replicate}
 use Rattle.std.proofs.lemmas.List.Sums.{sum_by-cons, sum_by_push}
@@ -32,7 +34,7 @@ use Rattle.rgo_sound.proofs.plain.Steps.{Always}
 use Rattle.rgo_sound.proofs.Places.{length_set}
 use Rattle.rgo_region_machine.specs.Objects.{cells, object_words}
 
--- ---- what an operation on one object leaves has the size of the object
+-- ---- an operation on one object keeps its size
 
 abbrev pub SameSize : Object → Object → Type 0
 SameSize old new = (object_words new ≡ object_words old) × (cells new ≡ cells old)

@@ -1,4 +1,5 @@
--- What an event leaves as it was.
+-- What an event leaves as it was. An event writes one place of the list of holders, or two at a meeting, and may add one at the end; so
+-- the proof is about lists, and each kind of event only shows which place it writes.
 use Rattle.std.proofs.Common.{◌≡◌, ℕ, inl, inr, false, List, [], ◌∷◌, ◌++◌, Some, refl, sym, ap, subst, ◌∙◌}
 use Rattle.std.proofs.Common.{slice_get, slice_set, nat_eq, arith}
 use Rattle.std.proofs.lemmas.Bool.Decides.{nat_tests}

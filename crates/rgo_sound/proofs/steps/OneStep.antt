@@ -1,4 +1,5 @@
--- What the steps of instructions are, unfolded once: of one goroutine, and of two that meet.
+-- What the steps of instructions are, unfolded once: of one goroutine (`OneDone`), and of two that meet (`MeetDone`). A step of the
+-- machine is a nest of tests; these records have all that was tested as fields, and each part of the invariant starts from them.
 use Rattle.std.proofs.Common.{◌≡◌, ℕ, ◌+◌, Bool, true, false, ◌&&◌, List, [], ◌∷◌, ◌++◌, map, Option, Some, None, refl}
 use Rattle.std.proofs.Common.{sym, ap, ◌∙◌, subst, nat_eq, if◌then◌else◌, true≢false, slice_get, slice_set, option_map}
 use Rattle.std.proofs.Common.{option_and_then, Contains}
@@ -37,7 +38,7 @@ use Rattle.rgo_typed.specs.declared.actions.Action.TheVariants.{Get, Int, IsNil,
 use Rattle.rgo_typed.specs.declared.actions.Action.TheVariants.{Recv, Send, Set, Slice, Store}
 use Rattle.rgo_memory.specs.declared.values.Value.TheVariants as value
 
--- only the fills of pages differ, and how many pages are reserved
+-- k differs from h in the fills of pages and in how many are reserved, and in nothing else: that is all that placing an object changes
 pub record SameHolder (h k : Holder) : Type 0 where
   pub fills : List (Region × ℕ)
   pub reserved : ℕ
@@ -47,14 +48,14 @@ pub none_owed : (ds : List Duty) → has_none ds ≡ true → ds ≡ []
 none_owed [] e = refl
 none_owed (d ∷ ds) e = cc
 
--- ---- what an instruction gave of owners: a region for the object that it made, and nothing where it made none
+-- ---- the owners that an instruction adds: the region of the object that it made, or none
 
 abbrev pub Allots : Option Region → Option Object → List Region → Type 0
 Allots region None given = given ≡ []
 Allots None (Some object) given = ⊥
 Allots (Some r) (Some object) given = given ≡ r ∷ []
 
--- no call, no start and no return
+-- an instruction that neither calls, starts nor returns
 abbrev pub IsSimple : CodeOp → Type 0
 IsSimple (Do to action from removes) = Unit {0}
 IsSimple (Call to n from passes protects removes) = ⊥
@@ -75,7 +76,7 @@ current_erased code frame = ap (option_and_then (λ f. slice_get f.body frame.ne
     go None = refl
     go (Some fn) = slice_get-map erased_instr fn.body frame.next
 
--- ---- where a goroutine stands at a channel
+-- ---- a goroutine at a channel
 
 -- the goroutine is to receive on c
 pub record ReceivesAt (code : Code) (frames : List TacFrame) (c : Value) (go_on : Value → List TacFrame) : Type 0 where
@@ -115,7 +116,7 @@ StandsAt code frame callers (AtCall next callee) = Unit {0}
 StandsAt code frame callers (AtStart next child) = Unit {0}
 StandsAt code frame callers Elsewhere = Unit {0}
 
--- where the plain machine is to receive or to send, so is the code
+-- if the three-address machine is about to receive or to send, so is the instruction of the code with regions
 pub stands_at_channel : (code : Code) (frame : TacFrame) (callers : List TacFrame)
     → StandsAt code frame callers (tac_stand (erased code) frame)
 stands_at_channel code frame callers = subst (λ o. StandsAt code frame callers (stand_at_instr (erased code) frame o))
@@ -207,7 +208,7 @@ stands_at_channel code frame callers = subst (λ o. StandsAt code frame callers 
         by (Branch v j removes k others) is = tt
         by (Return value) is = tt
 
--- the frames go on along an edge of a simple instruction
+-- the frames continue along an edge of a simple instruction
 pub record OnFrom (code : Code) (frames next : List TacFrame) : Type 0 where
   pub frame : TacFrame
   pub callers : List TacFrame
@@ -227,7 +228,7 @@ action_edge op frame to action from removes is = subst (λ (o : CodeOp).
     Contains {X = ℕ × List ℕ} (edges o frame.next) (frame.next + 1, removes_behind frame o)) (sym is)
     (contains_here {X = ℕ × List ℕ} (frame.next + 1, removes) [])
 
--- a receive goes on along an edge
+-- a receive continues along an edge
 pub receive_goes : {code : Code} → {frames : List TacFrame} → {c : Value} → {go_on : Value → List TacFrame}
     → ReceivesAt code frames c go_on → (v : Value) → OnFrom code frames (go_on v)
 receive_goes x v =
@@ -246,7 +247,7 @@ receive_goes x v =
           action_edge x.instr.op x.frame x.to Recv (x.channel ∷ []) x.removes x.is;
     }
 
--- a send goes on along an edge
+-- a send continues along an edge
 pub send_goes : {code : Code} → {frames : List TacFrame} → {c v : Value} → {next : List TacFrame}
     → SendsAt code frames c v next → OnFrom code frames next
 send_goes x =
@@ -265,7 +266,7 @@ send_goes x =
           action_edge x.instr.op x.frame x.to Send (x.channel ∷ x.sent ∷ []) x.removes x.is;
     }
 
--- what a goroutine owes after an instruction that is no call, no start and no return
+-- what a goroutine owes after an instruction that neither calls, starts nor returns
 pub after_simple : (code : Code) (h : Holder) (frame : TacFrame) (callers : List TacFrame) (op : CodeOp) (next : List TacFrame)
     → IsSimple op → holder_after code h frame callers op next
     ≡ record h { duties = map Remove (removes_behind frame op) ++ next_duties code next }
@@ -320,7 +321,7 @@ pub record Ready (s : RegionState) (h : Holder) (frame : TacFrame) (instr : Code
   pub free : may_go h.offer ≡ true
   pub live : may_touch s (touched frame instr.op) ≡ true
 
--- what the test says that a goroutine is ready
+-- what the machine's test says that a goroutine is ready
 pub ready_is : (code : Code) (s : RegionState) (h : Holder) (frame : TacFrame) (callers : List TacFrame) (instr : CodeInstr)
     → current code frame ≡ Some instr → is_ready code s h (frame ∷ callers) ≡ true → Ready s h frame instr
 ready_is code s h frame callers instr cur r = go (has_none h.duties) refl (may_go h.offer) refl
@@ -428,7 +429,7 @@ one_done code page_words s g = runs s.plain.ended refl
 
 -- ---- a meeting
 
--- the state of the plain machine after it: both have other frames
+-- the state of the three-address machine after it: both have other frames
 abbrev pub met_with : TacState → ℕ → ℕ → List TacFrame → List TacFrame → TacState
 met_with p r u receiver sender = with_frames (with_frames p r receiver) u sender
 

@@ -1,4 +1,6 @@
--- What each action does keeps the types of the memory, and gives a value of its type.
+-- What each action does keeps the types of the memory, and returns a value of its type. The typing rules speak of the types of
+-- variables; by `HasKind` these say which values there can be, and each action is then a case analysis on values. Objects are only
+-- added, so their types are only extended (`Extends`).
 use Rattle.std.proofs.Common.{◌≡◌, ℕ, zero, suc, ◌+◌, ◌<◌, ◌⊎◌, inl, inr, Bool, true, false, List, [], ◌∷◌, ◌++◌, map}
 use Rattle.std.proofs.Common.{length, replicate, Option, Some, None, Result, Ok, Err, refl, sym, ap, ◌∙◌, subst, ℤ, pos}
 use Rattle.std.proofs.Common.{negsuc, nat_eq, nat_lt, int_eq, if◌then◌else◌, arith, true≢false, slice_get, slice_set}
@@ -87,26 +89,26 @@ slice_no_chan t u e =
 
 -- ---- values of types
 
--- objects that are there keep their types
+-- existing objects keep their types
 abbrev pub Extends : List «Type» → List «Type» → Type 0
 Extends kinds more = (o : ℕ) (ty : «Type») → slice_get kinds o ≡ Some ty → slice_get more o ≡ Some ty
 
 module _ (kinds more : List «Type») (ext : Extends kinds more) where
-  -- more objects change nothing: of a value
+  -- more objects change nothing: for a value
   pub more_kind : (ty : «Type») (v : Value) → HasKind kinds ty v → HasKind more ty v
   more_kind ty (value.Int i) h = h
   more_kind ty (value.Bool b) h = h
   more_kind ty value.Nil h = h
   more_kind ty (value.Object o) h = (ext o ty h.0, h.1)
 
-  -- of values
+  -- for values
   pub more_kinds : (tys : List «Type») (vs : List Value) → HaveKinds kinds tys vs → HaveKinds more tys vs
   more_kinds [] [] h = tt
   more_kinds [] (v ∷ vs) h = h
   more_kinds (ty ∷ tys) [] h = h
   more_kinds (ty ∷ tys) (v ∷ vs) h = (more_kind ty v h.0, more_kinds tys vs h.1)
 
-  -- of an object
+  -- for an object
   pub more_object : (structs : List Struct) (ty : «Type») (object : Object)
       → ObjectFits structs kinds ty object → ObjectFits structs more ty object
   more_object structs ty (StructObject cells) (n, is, s, at, h) = (n, is, s, at, more_kinds s.fields cells h)
@@ -150,7 +152,7 @@ module _ (kinds : List «Type») where
   zeros_kinds [] = tt
   zeros_kinds (ty ∷ tys) = (zero_kind ty, zeros_kinds tys)
 
-  -- ---- what is shown of each value of a type
+  -- ---- case analysis on the values of a type
 
   by_int : (P : Value → Type 0) → ((i : ℤ) → P (value.Int i)) → (v : Value) → HasKind kinds int v → P v
   by_int P f (value.Int i) h = f i
@@ -171,7 +173,7 @@ module _ (kinds : List «Type») where
   by_pointer P t p n f value.Nil h = n
   by_pointer P t p n f (value.Object o) h = f o h.0
 
-  -- ---- what is shown of so many values
+  -- ---- case analysis on the values of a list of types
 
   by_none : (P : List Value → Type 0) (tys : List «Type») (vs : List Value) → tys ≡ [] → HaveKinds kinds tys vs
       → P [] → P vs
@@ -214,7 +216,7 @@ module _ (kinds : List «Type») where
 
 -- ---- memory
 
--- of an action that gives no value nothing is said of it
+-- nothing is said of the value of an action that returns none
 abbrev pub GivesKind : List «Type» → Option «Type» → Value → Type 0
 GivesKind kinds None v = Unit {0}
 GivesKind kinds (Some ty) v = HasKind kinds ty v
@@ -293,7 +295,7 @@ make_object code kinds m ty object fits p h = (
 -- ---- the actions
 
 module _ (code : Code) (kinds : List «Type») (m : Memory) (fits : MemoryFits code kinds m) where
-  -- the object of a pointer is there, and is of its type
+  -- the object of a pointer exists, and has its type
   pub object_of : (o : ℕ) (ty : «Type») → slice_get kinds o ≡ Some ty
       → (object : Object) × (slice_get m.heap o ≡ Some object) × ObjectFits code.structs kinds ty object
   object_of o ty k = go (get_some m.heap o below)
@@ -307,7 +309,7 @@ module _ (code : Code) (kinds : List «Type») (m : Memory) (fits : MemoryFits c
           let f = fits.objects o object e in
           (object, e, subst (λ t. ObjectFits code.structs kinds t object) (same_Some f.0 ty (sym f.1 ∙ k)) f.2)
 
-  -- what is shown of the object of a pointer to a struct, of a slice, of a channel
+  -- case analysis on the object of a pointer to a struct, of a slice, of a channel
   by_struct : (P : Option Object → Type 0) (n o : ℕ) → slice_get kinds o ≡ Some (pointer_to n)
       → ((cells : List Value) (s : Struct) → slice_get code.structs n ≡ Some s → HaveKinds kinds s.fields cells
       → P (Some (StructObject cells)))
@@ -414,7 +416,7 @@ module _ (code : Code) (kinds : List «Type») (m : Memory) (fits : MemoryFits c
 
   -- ---- fields
 
-  -- a field of a struct that is there is of the type
+  -- a field of an existing struct has the declared type
   field_type : (n k : ℕ) (t : «Type») (s : Struct) → HasField (declared_in_code (erased code)) n k t
       → slice_get code.structs n ≡ Some s → slice_get s.fields k ≡ Some t
   field_type n k t s (fields, at, f) e =
@@ -613,7 +615,7 @@ module _ (code : Code) (kinds : List «Type») (m : Memory) (fits : MemoryFits c
   computes binary.And t tys vs c h = absurd c
   computes binary.Or t tys vs c h = absurd c
 
-  -- an action that gives a value
+  -- an action that returns a value
   pub returns : (a : Action) (t : «Type») (tys : List «Type») (vs : List Value) → ReturnsType (erased code) a tys t
       → HaveKinds kinds tys vs → Always (Performed code kinds (Some t)) (performed code.structs a t vs m)
   returns (action.Int k) t tys vs r h =

@@ -1,4 +1,6 @@
--- Each step of the three-address machine keeps the types of values.
+-- Each step of the three-address machine keeps the types of values. Two cases need more than the types of one frame. A returned value
+-- has the type of the variable that waits for it, because the caller is at a call of this very function (`CalledFrom`). A value that is
+-- sent has the type that the receiver expects, because the channel is one object with one type (`one_inner`).
 use Rattle.std.proofs.Common.{◌≡◌, ℕ, zero, suc, ◌+◌, ◌⊎◌, inl, inr, Bool, true, false, List, [], ◌∷◌, ◌++◌, map, take}
 use Rattle.std.proofs.Common.{drop, length, Option, Some, None, refl, sym, ap, ◌∙◌, subst, nat_eq, if◌then◌else◌}
 use Rattle.std.proofs.Common.{true≢false, slice_get, slice_set, option_map, option_and_then}
@@ -90,7 +92,7 @@ called_from code frame frame' [] e h = tt
 called_from code frame frame' (caller ∷ callers) e (fn, is, call, cur, of) =
     (fn, ap (slice_get code.functions) e ∙ is, call, cur, of)
 
--- a frame goes on in its function, with other variables
+-- a frame continues in its function, with other variables
 goes : (code : Code) (kinds more : List «Type») (frame : TacFrame) (callers : List TacFrame)
     → (all : FramesHaveKinds code kinds (frame ∷ callers)) → Extends kinds more → (variables : List Value) (i : ℕ)
     → HaveKinds more (erased_fn all.0.0).variables variables
@@ -101,7 +103,7 @@ goes code kinds more frame callers all ext variables i h = (
   more_frames code kinds more ext callers all.2,
 )
 
--- it goes on, or goes elsewhere, with the same variables
+-- it continues, or jumps, with the same variables
 stays : (code : Code) (kinds : List «Type») (frame : TacFrame) (callers : List TacFrame)
     → FramesHaveKinds code kinds (frame ∷ callers) → (i : ℕ) → FramesHaveKinds code kinds (moved_to frame i ∷ callers)
 stays code kinds frame callers all i =
@@ -413,7 +415,7 @@ module _ (code : Code) (checked : IsChecked code) where
                 (stays code kinds x.frame x.callers all' (x.frame.next + 1));
           }
 
-  -- two values that meet are of one object
+  -- two values that meet are pointers to one channel
   pub one_object : (m : Memory) (c d : Value) → meets_at m c d ≡ true
       → (o : ℕ) × (c ≡ value.Object o) × (d ≡ value.Object o)
   one_object m (value.Object o) (value.Object p) e =
@@ -544,7 +546,7 @@ module _ (code : Code) (checked : IsChecked code) where
       go false ne (Some fs) q None q' = tt
       go false ne (Some fs) q (Some hs) q' = both ne fs q hs q'
 
-  -- each step of the plain machine keeps types
+  -- each step of the three-address machine keeps types
   pub pick_typed : (p : TacState) (pick : Pick) → AreValuesTyped code p → Always (AreValuesTyped code) (plain_step code p pick)
   pick_typed p pick t = go p.ended refl
     where
