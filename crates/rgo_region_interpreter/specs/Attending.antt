@@ -1,13 +1,12 @@
--- What the functions that do a goroutine's steps with regions make of a world.
+-- What the functions that do a goroutine's steps with regions make of a world: the facts that their contracts are written in.
 use Rattle.std.specs.Prelude.{◌≡◌, ◌≤◌, ◌<◌, ◌+◌, ◌-◌, ◌++◌, ℕ, max, Bool, true, false, List, [], ◌∷◌, drop, length, map, Option, Some, None}
 use Rattle.std.specs.Prelude.{is_some, nat_eq, nat_lt, slice_get, slice_set}
 use Rattle.std.specs.HashMap.{HashMap, get}
 use Rattle.std.specs.List.{list_any}
 use Rattle.rgo_machine.specs.declared.limits.Shortage.TheVariants as shortage
-use Rattle.rgo_memory.specs.Memory.{Memory}
 use Rattle.rgo_region_machine.specs.declared.regions.Region.{Region}
 use Rattle.rgo_region_machine.specs.declared.regions.Region.TheVariants.{Global as GlobalRegion, Numbered}
-use Rattle.rgo_region_machine.specs.Regions.{RegionInfo, is_live, with_info, one_fewer}
+use Rattle.rgo_region_machine.specs.Regions.{one_fewer}
 use Rattle.rgo_region_machine.specs.Room.{live_regions}
 use Rattle.rgo_region_machine.specs.States.{Duty, Create, Protect, Share, RegionState}
 use Rattle.rgo_region_machine.specs.States as spec
@@ -16,14 +15,14 @@ use Rattle.rgo_region_interpreter.specs.declared.worlds.Halt.{Halt}
 use Rattle.rgo_region_interpreter.specs.declared.worlds.Halt.TheVariants as halt
 use Rattle.rgo_region_interpreter.specs.declared.worlds.World.{World}
 use Rattle.rgo_region_interpreter.specs.Holders.{HolderLeaves, protections_in}
-use Rattle.rgo_region_interpreter.specs.Tables.{RegionTableShows, MemoryShows, AreMade}
+use Rattle.rgo_region_interpreter.specs.Tables.{TableChanges, MemoryLeaves}
 use Rattle.rgo_region_interpreter.specs.Works.{Attended, SameRun, Works, done_of}
 
 -- another memory, another table and other holders; nothing else
 abbrev pub IsMoved : World → World → Type 0
 IsMoved w v = v ≡ record w { state = record w.state { memory = v.state.memory }; table = v.table; holders = v.holders }
 
--- all is the same that a state is shown by
+-- everything by which a state is shown is the same
 pub record WorldStays (w v : World) : Type 0 where
   pub moved : IsMoved w v
   pub table : v.table ≡ w.table
@@ -38,15 +37,10 @@ pub record LeavesRegion (w v : World) (g : ℕ) (c : Holder) (r : ℕ) : Type 0 
   pub holder : Holder
   pub leaves : HolderLeaves c holder r
   pub holders : v.holders.items ≡ slice_set w.holders.items g holder
-  pub table : (regions : List RegionInfo) (global_pages : ℕ) (owners : List Region) → is_live regions (Numbered r) ≡ true
-      → RegionTableShows w.table regions global_pages owners
-      → RegionTableShows v.table (with_info regions r one_fewer) global_pages owners
-  pub memory : (regions : List RegionInfo) (global_pages : ℕ) (owners : List Region) (whole : Memory)
-      → is_live regions (Numbered r) ≡ true → RegionTableShows w.table regions global_pages owners → AreMade regions owners
-      → length owners ≡ length whole.heap → MemoryShows w.state.memory regions owners whole
-      → MemoryShows v.state.memory (with_info regions r one_fewer) owners whole
+  pub table : TableChanges w.table v.table r one_fewer
+  pub memory : MemoryLeaves w.table w.state.memory v.state.memory r
 
--- all stays where it protects the region
+-- everything stays if it protects the region
 abbrev pub LeavesUnless : Bool → World → World → ℕ → Holder → ℕ → Type 0
 LeavesUnless true w v g c r = WorldStays w v
 LeavesUnless false w v g c r = LeavesRegion w v g c r
@@ -56,7 +50,7 @@ EndsStake w v g GlobalRegion = WorldStays w v
 EndsStake w v g (Numbered r) = (c : Holder) → slice_get w.holders.items g ≡ Some c
     → LeavesUnless (nat_lt 0 (protections_in c r)) w v g c r
 
--- the regions that a goroutine was given at two positions, as far as they have not ended
+-- the regions that a goroutine was passed at two positions and that have not ended
 abbrev pub base_in : Option Holder → List ℕ
 base_in None = []
 base_in (Some c) = c.base.items
@@ -100,7 +94,7 @@ ProtectsAll w v g created names = (s : RegionState) → created ≤ done_of w g
     → Works w s g (drop (done_of w g - created) (map Protect names))
     → DoesAll w v s g [] (max (done_of w g) (created + length names))
 
--- none is done, or all are
+-- none is done, or all are: only a creation can lack room, so a turn never ends between two shares
 pub record SharesAll (w v : World) (g created : ℕ) (names : List ℕ) : Type 0 where
   pub shares : (s : RegionState) (works : Works w s g (map Share names)) → works.holder.pending ≡ []
       → done_of w g ≤ created → DoesAll w v s g [] (done_of w g + length names)

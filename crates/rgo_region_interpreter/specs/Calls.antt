@@ -1,4 +1,5 @@
--- What a call passes, and what it leaves to its callee, of the names that the code keeps.
+-- What a call passes, and what it gives to its callee, of the names that the code keeps. Where the machine has lists of bindings, the
+-- code has tables; the two are compared name by name (`NamesStandFor`), so their order does not matter.
 use Rattle.std.specs.Prelude.{◌≡◌, ℕ, List, [], ◌∷◌, ◌++◌, map, Option, Some, None, nat_eq, if◌then◌else◌}
 use Rattle.std.specs.Prelude.{slice_get, slice_set}
 use Rattle.std.specs.List.{list_any}
@@ -47,7 +48,7 @@ UnbindsAll c d given = Renames c d (bound_except given)
 
 -- ---- what goroutines have after a call, a start and a return; nothing else changed
 
--- a caller without what it leaves, and above it the callee's names, which are bound to the regions that were passed
+-- a caller without what it gives, and above it the callee's names, which are bound to the regions that were passed
 pub record HolderCalled (c d : Holder) (function : Option CodeFn) (passes : List Class) (protects : List ℕ) : Type 0 where
   pub caller : Holder
   pub leaves : UnbindsAll c caller (given_names (function_result_class function) (formals_of function) passes protects)
@@ -56,7 +57,7 @@ pub record HolderCalled (c d : Holder) (function : Option CodeFn) (passes : List
   pub stand : (bindings : Bindings) → NamesStandFor (newest_frame_names (frame_names_of c)) bindings
       → NamesStandFor names (passed (formals_of function) (passed_regions bindings passes))
 
--- the same of a goroutine that starts: its base are the regions that it was given at two positions
+-- the same for a goroutine that starts: its base has the regions that it was passed at two positions
 pub record HolderStarted (c d : Holder) (function : Option CodeFn) (passes : List Class) : Type 0 where
   pub names : FrameNames
   pub base : List ℕ

@@ -1,10 +1,11 @@
--- How large an object is that is about to be made, and how many pages are taken before it: by its cells and words alone.
+-- How large an object is that is about to be made, and how many pages are taken before it: by its cells and words alone, since the code
+-- has to know this before the object exists.
 use Rattle.std.specs.Prelude.{◌≡◌, ℕ, ◌+◌, ◌-◌, ◌/◌, Bool, true, false, Option, Some, None, nat_lt, if◌then◌else◌}
 use Rattle.rgo_memory.specs.Memory.{Object}
 use Rattle.rgo_region_machine.specs.Objects.{cells, fits_in_page, most_data_pages, object_words}
 use Rattle.rgo_region_interpreter.specs.declared.objects.Extent.{Extent}
 
--- an object that is so large
+-- the object has this extent
 pub record IsExtentOf (extent : Extent) (object : Object) : Type 0 where
   pub words : object_words object ≡ extent.words
   pub cells : cells object ≡ extent.cells

@@ -1,4 +1,5 @@
--- What the code keeps of a goroutine's regions.
+-- What the code keeps of a goroutine's regions. Holders are compared by what can be asked of them (`bound_in`, `protections_in`,
+-- `fill_in`), and not by their vectors and maps, of which several show the same.
 use Rattle.std.specs.Prelude.{◌≡◌, ℕ, ◌+◌, ◌-◌, Bool, true, false, List, [], ◌∷◌, map, reverse, Option, Some, None}
 use Rattle.std.specs.Prelude.{nat_eq, slice_get, if◌then◌else◌, Vec}
 use Rattle.std.specs.HashMap.{get}
@@ -65,7 +66,7 @@ SameProtections c d = (r : ℕ) → protections_in d r ≡ protections_in c r
 abbrev pub SameFills : Holder → Holder → Type 0
 SameFills c d = (region : Region) → fill_in d region ≡ fill_in c region
 
--- all but the names
+-- all but the names stays
 pub record SameElse (c d : Holder) : Type 0 where
   pub protections : SameProtections c d
   pub fills : SameFills c d
@@ -76,7 +77,7 @@ pub record SameElse (c d : Holder) : Type 0 where
 abbrev pub Same : Holder → Holder → Type 0
 Same c d = (frame_names_of d ≡ frame_names_of c) × SameElse c d
 
--- all but the protections
+-- all but the protections stays
 pub record SameButProtections (c d : Holder) : Type 0 where
   pub names : frame_names_of d ≡ frame_names_of c
   pub fills : SameFills c d
@@ -113,7 +114,7 @@ HolderProtects c d region = ((r : ℕ) → protections_in d r ≡ protections_in
 abbrev pub Unprotects : Holder → Holder → Region → Type 0
 Unprotects c d region = ((r : ℕ) → protections_in d r ≡ protections_in c r - one_when (is_region_number region r)) × SameButProtections c d
 
--- all but the fills
+-- all but the fills stays
 pub record SameGuards (c d : Holder) : Type 0 where
   pub names : frame_names_of d ≡ frame_names_of c
   pub protections : SameProtections c d
@@ -147,7 +148,7 @@ pub record HolderBegins (c : Holder) (names : FrameNames) (base : List ℕ) : Ty
   pub reserved : c.reserved ≡ 0
   pub done : c.done ≡ 0
 
--- ---- what it is of the machine
+-- ---- what it shows of the machine's holder
 
 abbrev pub times_region : Region → List Region → ℕ
 times_region r [] = 0
@@ -163,7 +164,8 @@ SameBindings [] [] = Unit {0}
 SameBindings (names ∷ frames) (e ∷ es) = ((k : ℕ) → bound_in names k ≡ bound e.names k) × SameBindings frames es
 SameBindings _ _ = ⊥
 
--- between what a goroutine does: it makes no offer
+-- At each moment between calls: a goroutine has no offer, since an offer is made, taken and acknowledged within one call. Fills are
+-- compared only in regions with a stake; in others the machine keeps what the code forgets.
 pub record HolderShows (c : Holder) (h : spec.Holder) : Type 0 where
   pub names : SameBindings (frame_names_of c) h.environments
   pub protections : (r : ℕ) → protections_in c r ≡ protection_count (Numbered r) h.environments h.base

@@ -1,5 +1,5 @@
--- The objects that instructions make: to which variable, how large they are, and the region in which they lie.
-use Rattle.std.specs.Prelude.{◌≡◌, ℕ, ◌+◌, max, List, [], ◌∷◌, ◌++◌, length, pos, Option, Some, None}
+-- The objects that instructions make: to which variable, how large they are, and their region.
+use Rattle.std.specs.Prelude.{◌≡◌, ℕ, ◌+◌, max, List, [], ◌∷◌, length, pos, Option, Some, None}
 use Rattle.std.specs.Prelude.{Bool, true, false, slice_get, slice_set, unwrap_or}
 use Rattle.std.specs.Option.{option_map}
 use Rattle.rgo_typed.specs.declared.actions.Action.{Action}
@@ -17,7 +17,6 @@ use Rattle.rgo_region_machine.specs.declared.regions.Region.{Region}
 use Rattle.rgo_region_machine.specs.declared.regions.Region.TheVariants.{Global as GlobalRegion}
 use Rattle.rgo_region_machine.specs.Objects.{making_region, fill_of}
 use Rattle.rgo_region_machine.specs.Owed.{removes_behind}
-use Rattle.rgo_region_machine.specs.Regions.{RegionInfo, is_live}
 use Rattle.rgo_region_machine.specs.States.{RegionState, top_names}
 use Rattle.rgo_region_interpreter.specs.declared.holders.Holder.{Holder}
 use Rattle.rgo_region_interpreter.specs.declared.objects.Extent.{Extent}
@@ -28,7 +27,7 @@ use Rattle.rgo_region_interpreter.specs.declared.worlds.Next.{Next}
 use Rattle.rgo_region_interpreter.specs.declared.worlds.World.{World}
 use Rattle.rgo_region_interpreter.specs.Extents.{extent_is_spread, extent_is_too_large, pages_wanted}
 use Rattle.rgo_region_interpreter.specs.Holders.{Fills, Reserves, fill_in, region_in}
-use Rattle.rgo_region_interpreter.specs.Tables.{RegionTableShows, regions_with_page, pages_with}
+use Rattle.rgo_region_interpreter.specs.Tables.{TableOwns, TableTakesPage}
 use Rattle.rgo_region_interpreter.specs.Works.{Attended, IsNextInWorld, Ready, SameRun, StopsShort}
 
 -- ---- which object an instruction makes
@@ -123,7 +122,7 @@ region_for w g next making = region_of_class w g (class_of next.function making.
 
 -- ---- its pages
 
--- what goroutine g has changes so
+-- goroutine g's holder changes like this, and no other holder changes
 abbrev pub IsChanged : World → World → (g : ℕ) → (change : Holder → Holder → Type 0) → Type 0
 IsChanged w v g change = (c : Holder) → slice_get w.holders.items g ≡ Some c
     → (d : Holder) × (v.holders.items ≡ slice_set w.holders.items g d) × change c d
@@ -142,9 +141,7 @@ WithPage false c d region = Fills c d region 0
 pub record AddsPage (w v : World) (g : ℕ) (region : Region) (extent : Extent) : Type 0 where
   pub same : v ≡ record w { table = v.table; holders = v.holders }
   pub changed : IsChanged w v g (λ c d. WithPage (extent_is_spread w.sizes.page_words extent) c d region)
-  pub taken : (regions : List RegionInfo) (global_pages : ℕ) (owners : List Region) → is_live regions region ≡ true
-      → RegionTableShows w.table regions global_pages owners
-      → RegionTableShows v.table (regions_with_page regions region) (pages_with global_pages region) owners
+  pub taken : TableTakesPage w.table v.table region
 
 abbrev pub fill_held : Option Holder → Region → Option ℕ
 fill_held None region = None
@@ -167,18 +164,16 @@ abbrev pub pages_wanted_for : World → ℕ → Region → Extent → ℕ
 pages_wanted_for w g region extent =
     pages_wanted w.sizes.page_words (reserved_for w g) (fill_for w g region) extent
 
--- a spread object lies in the pages that were reserved, and any other, of this many words, in the own page
+-- a spread object takes the pages that were reserved, and any other takes this many words of the own page
 abbrev pub Placed : (spread : Bool) → Holder → Holder → Region → (words : ℕ) → Type 0
 Placed true c d region words = Reserves c d 0
 Placed false c d region words = Fills c d region (unwrap_or (fill_in c region) 0 + words)
 
--- an object lies in goroutine g's pages of a region
+-- an object is placed in goroutine g's pages of a region
 pub record PlacesObject (w v : World) (g : ℕ) (region : Region) (extent : Extent) (object : ℕ) : Type 0 where
   pub same : v ≡ record w { table = v.table; holders = v.holders }
   pub changed : IsChanged w v g (λ c d. Placed (extent_is_spread w.sizes.page_words extent) c d region extent.words)
-  pub owned : (regions : List RegionInfo) (global_pages : ℕ) (owners : List Region) → is_live regions region ≡ true
-      → object ≡ length owners → RegionTableShows w.table regions global_pages owners
-      → RegionTableShows v.table regions global_pages (owners ++ region ∷ [])
+  pub owned : TableOwns w.table v.table region object
 
 -- a state at which goroutine g is ready, and has all pages of a region that are taken for the object that it makes
 pub record IsRoomy (w : World) (s : RegionState) (g : ℕ) (next : Next) (making : Making) : Type 0 where
@@ -196,7 +191,7 @@ pub record ObjectHasRoom (w v : World) (s : RegionState) (g : ℕ) (next : Next)
   pub attended : Attended w v s g []
   pub roomy : IsRoomy v attended.state g next making
 
--- there is none, after some pages at most; or memory ran out
+-- there is no room, after some pages at most; or memory ran out
 abbrev pub ObjectHasNoRoom : Halt → World → World → ℕ → Type 0
 ObjectHasNoRoom halt.NoMemory w v g = SameRun w v
 ObjectHasNoRoom (halt.NoRoom why) w v g = (s : RegionState) → Ready w s g → StopsShort w v s g why

@@ -1,5 +1,7 @@
--- What holds of the regions in every run, beside what makes it safe: each object's region was made, nothing is pending
--- before a goroutine takes the first stake for one that it is about to start, and each protection that is to end is there.
+-- What holds of the regions in every run, beside what makes it safe: each object's region was made, nothing is pending before a
+-- goroutine takes the first stake for one that it is about to start, and each protection that is to end exists. The machine does not
+-- depend on these, but the code does: it begins each start with an empty set of shared regions, and counts protections down without a
+-- test.
 use Rattle.std.specs.Prelude.{◌≡◌, ◌≤◌, ℕ, ◌+◌, List, [], ◌∷◌, length, Some, None, slice_get}
 use Rattle.rgo_code.specs.Code.{Code}
 use Rattle.rgo_region_machine.specs.declared.regions.Region.{Region}
@@ -21,7 +23,7 @@ shares_in (Unprotect k ∷ duties) = shares_in duties
 shares_in (Remove k ∷ duties) = shares_in duties
 shares_in (EndBase r ∷ duties) = shares_in duties
 
--- each protection that ends by these steps is there in its turn
+-- each protection that ends by these steps exists in its turn
 abbrev pub Unprotects : List Duty → Bindings → List Region → Type 0
 Unprotects [] names protections = Unit {0}
 Unprotects (Create k ∷ duties) names protections = (r : ℕ) → Unprotects duties ((k, Numbered r) ∷ unbind names k) protections

@@ -1,19 +1,19 @@
--- What the code keeps of the regions of a run: the rows of those that are live, and counts; and of the memory: all but
--- what the objects of removed regions held.
-use Rattle.std.specs.Prelude.{◌≡◌, ◌<◌, ℕ, suc, ◌+◌, Bool, true, false, List, [], ◌∷◌, length, Option, Some, None}
+-- What the code keeps of the regions of a run: the rows of those that are live, and counts; and of the memory: all but what the objects
+-- of removed regions held. The machine's state has both in full; no step reads the rest.
+use Rattle.std.specs.Prelude.{◌≡◌, ◌<◌, ℕ, suc, ◌+◌, ◌++◌, Bool, true, false, List, [], ◌∷◌, length, Option, Some, None}
 use Rattle.std.specs.Prelude.{sum_by, count_by, slice_get, nat_eq, nat_lt, if◌then◌else◌}
 use Rattle.std.specs.HashMap.{get}
 use Rattle.rgo_memory.specs.Memory.{Object, StructObject, Memory, with_object}
 use Rattle.rgo_region_machine.specs.declared.regions.Region.{Region}
 use Rattle.rgo_region_machine.specs.declared.regions.Region.TheVariants.{Global as GlobalRegion, Numbered}
 use Rattle.rgo_region_machine.specs.Counts.{is_removed, pages_if_removed}
-use Rattle.rgo_region_machine.specs.Regions.{RegionInfo, same_region, with_info, one_page_more}
+use Rattle.rgo_region_machine.specs.Regions.{RegionInfo, is_live, same_region, with_info, one_fewer, one_page_more}
 use Rattle.rgo_region_interpreter.specs.declared.tables.Row.{Row}
 use Rattle.rgo_region_interpreter.specs.declared.tables.Table.{Table}
 
 -- ---- rows
 
--- the objects of a region, where the first of these owners is that of object n
+-- the objects of a region, if the first of these owners is that of object n
 abbrev pub owned : Region → List Region → (n : ℕ) → List ℕ
 owned r [] n = []
 owned r (owner ∷ owners) n = if same_region owner r then n ∷ owned r owners (suc n) else owned r owners (suc n)
@@ -50,6 +50,29 @@ abbrev pub SameTable : Table → Table → Type 0
 SameTable t u = (regions : List RegionInfo) (global_pages : ℕ) (owners : List Region)
     → RegionTableShows u regions global_pages owners → RegionTableShows t regions global_pages owners
 
+-- ---- what the functions on a table do to it
+
+-- Each of these is said for any regions, pages and owners that the table shows: the code has only the table, and the proof that calls
+-- it knows for which state that is.
+
+-- a new region with one stake
+abbrev pub TableCreates : Table → Table → Type 0
+TableCreates t u = (regions : List RegionInfo) (global_pages : ℕ) (owners : List Region) → AreMade regions owners
+    → RegionTableShows t regions global_pages owners
+    → RegionTableShows u (regions ++ record { stakes = 1; pages = 0 } ∷ []) global_pages owners
+
+-- the entry of a live region changes like this, and nothing else changes
+abbrev pub TableChanges : Table → Table → (r : ℕ) → (RegionInfo → RegionInfo) → Type 0
+TableChanges t u r change = (regions : List RegionInfo) (global_pages : ℕ) (owners : List Region)
+    → is_live regions (Numbered r) ≡ true → RegionTableShows t regions global_pages owners
+    → RegionTableShows u (with_info regions r change) global_pages owners
+
+-- a new object in a live region or in Global
+abbrev pub TableOwns : Table → Table → Region → (object : ℕ) → Type 0
+TableOwns t u region object = (regions : List RegionInfo) (global_pages : ℕ) (owners : List Region)
+    → is_live regions region ≡ true → object ≡ length owners → RegionTableShows t regions global_pages owners
+    → RegionTableShows u regions global_pages (owners ++ region ∷ [])
+
 -- ---- pages
 
 abbrev pub regions_with_page : List RegionInfo → Region → List RegionInfo
@@ -59,6 +82,12 @@ regions_with_page regions (Numbered r) = with_info regions r one_page_more
 abbrev pub pages_with : ℕ → Region → ℕ
 pages_with global_pages GlobalRegion = global_pages + 1
 pages_with global_pages (Numbered r) = global_pages
+
+-- a page more in a live region or in Global
+abbrev pub TableTakesPage : Table → Table → Region → Type 0
+TableTakesPage t u region = (regions : List RegionInfo) (global_pages : ℕ) (owners : List Region)
+    → is_live regions region ≡ true → RegionTableShows t regions global_pages owners
+    → RegionTableShows u (regions_with_page regions region) (pages_with global_pages region) owners
 
 -- ---- memory
 
@@ -75,7 +104,7 @@ abbrev pub kept_object : Bool → Object → Object
 kept_object true object = StructObject []
 kept_object false object = object
 
--- the objects, without what those of removed regions held
+-- the objects, without what those of removed regions held; they keep their numbers, so pointers need no renaming
 abbrev pub kept_heap : List RegionInfo → List Region → List Object → List Object
 kept_heap regions [] heap = heap
 kept_heap regions (owner ∷ owners) [] = []
@@ -87,6 +116,13 @@ kept_memory regions owners whole = record whole { heap = kept_heap regions owner
 
 abbrev pub MemoryShows : Memory → List RegionInfo → List Region → Memory → Type 0
 MemoryShows m regions owners whole = m ≡ kept_memory regions owners whole
+
+-- the memory when a stake in a live region of this table ends: with the last one it no longer has what the region's objects held
+abbrev pub MemoryLeaves : Table → (before after : Memory) → (r : ℕ) → Type 0
+MemoryLeaves t before after r = (regions : List RegionInfo) (global_pages : ℕ) (owners : List Region) (whole : Memory)
+    → is_live regions (Numbered r) ≡ true → RegionTableShows t regions global_pages owners → AreMade regions owners
+    → length owners ≡ length whole.heap → MemoryShows before regions owners whole
+    → MemoryShows after (with_info regions r one_fewer) owners whole
 
 -- the memory after these objects are taken away
 abbrev pub without_objects : List ℕ → Memory → Memory

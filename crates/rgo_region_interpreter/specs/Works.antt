@@ -1,4 +1,6 @@
--- What steps of a goroutine do to a world: the run of the region machine continues, and the world shows where it is.
+-- What steps of a goroutine do to a world: the run of the region machine continues, and the world shows where it is. The code does not
+-- have the machine's state, which also keeps what removed regions held. So each of these facts is for every state that the world may
+-- show: from any of them, events lead to one that the world shows afterwards.
 use Rattle.std.specs.Prelude.{◌≡◌, ◌≤◌, ◌++◌, ℕ, Bool, true, false, List, [], ◌∷◌, map, Option, Some, None, Result, Ok, Err}
 use Rattle.std.specs.Prelude.{nat_lt, slice_get}
 use Rattle.std.specs.declared.alloc.AllocError.{AllocError}
@@ -50,7 +52,7 @@ abbrev pub OthersOwe : World → RegionState → ℕ → Type 0
 OthersOwe w s g = (j : ℕ) (c : Holder) (h : spec.Holder) → (j ≡ g → ⊥) → slice_get w.holders.items j ≡ Some c
     → slice_get s.holders j ≡ Some h → OwesNext w.code.now s j c h
 
--- they have what they had, in the code
+-- they have what they had, in the code: a turn of g writes only g's holder
 abbrev pub KeepsOthers : World → World → ℕ → Type 0
 KeepsOthers w v g = (j : ℕ) → (j ≡ g → ⊥) → slice_get v.holders.items j ≡ slice_get w.holders.items j
 
@@ -69,7 +71,7 @@ pub record Works (w : World) (s : RegionState) (g : ℕ) (duties : List Duty) : 
   pub is_holder : slice_get s.holders g ≡ Some holder
   pub owed : holder.duties ≡ duties
 
--- the same code, with as much room, and nothing printed
+-- the same code, with as much room, and nothing printed: what holds even if memory ran out on the way
 pub record SameRun (w v : World) : Type 0 where
   pub code : v.code.now ≡ w.code.now
   pub sizes : v.sizes ≡ w.sizes
@@ -143,7 +145,7 @@ pub record IsNextInWorld (w : World) (g : ℕ) (next : Next) : Type 0 where
 
 -- ---- whole steps
 
--- what the three-address machine has no room for is memory
+-- the three-address machine has no pages or regions to run out of, so for it a lack of room is a lack of memory
 abbrev pub plain_turn_end : TurnEnd → TurnEnd
 plain_turn_end (stop.NoRoom why) = stop.NoMemory
 plain_turn_end stop.Spent = stop.Spent
@@ -161,14 +163,14 @@ pub record WorldTakesTurn (w v : World) (limits : Limits) (g : ℕ) (turned : Tu
   pub same : v ≡ record w { state = v.state }
   pub no_region : (why : Shortage) → turned.stop ≡ stop.NoRoom why → ⊥
 
--- goroutine g has taken a step on the three-address machine, wherever the limits allow one; or nothing changed
+-- goroutine g has taken a step on the three-address machine, whenever the limits allow one; or nothing changed
 abbrev pub MayStep : World → World → ℕ → Bool → Type 0
 MayStep w v g true =
     (limits : Limits) → w.state.ended ≡ None → is_within limits w.state ≡ true
     → WorldTakesTurn w v limits g (record { steps = 1; stop = stop.Spent })
 MayStep w v g false = v ≡ w
 
--- the run continues after a turn of one step that was over so, if the step was done
+-- whether the run continues after a turn of one step with this end: the step was done, and it did not end the run
 abbrev pub goes_by : TurnEnd → (steps : ℕ) → Bool
 goes_by (stop.Ended e) steps = false
 goes_by stop.Spent steps = nat_lt 0 steps
@@ -180,7 +182,7 @@ goes_by stop.Full steps = nat_lt 0 steps
 goes_by (stop.NoRoom why) steps = nat_lt 0 steps
 goes_by stop.NoMemory steps = nat_lt 0 steps
 
--- what a turn was, with what had to be done with regions after its step
+-- a turn, with the result of what had to be done with regions after its step; the step itself stays counted, since it was done
 abbrev pub unless_failed : {A : Type 0} → Turned → Result A AllocError → Turned
 unless_failed turned (Ok a) = turned
 unless_failed turned (Err e) = record { steps = turned.steps; stop = stop.NoMemory }
@@ -191,8 +193,9 @@ pub record SamePrint (w v : World) (s t : RegionState) : Type 0 where
   pub whole : t.plain.printed ≡ s.plain.printed ++ bytes
   pub kept : v.state.printed ≡ w.state.printed ++ bytes
 
--- A turn of at most one step from a state between instructions. It is one of the three-address machine, and where memory
--- did not run out the world is between instructions again, or the run has ended.
+-- A turn of at most one step from a state between instructions. It is a turn of the three-address machine, and unless memory ran out
+-- the world is between instructions again, or the run has ended. When memory has run out, the machine's events are still a run with the
+-- same print, but the world need not show where it is.
 pub record TakesStep (w v : World) (limits : Limits) (s : RegionState) (g at_most : ℕ) (turned : Turned) : Type 0 where
   pub events : List Event
   pub state : RegionState
@@ -210,12 +213,19 @@ abbrev pub WorldTakesSteps : World → World → Limits → (g at_most : ℕ) �
 WorldTakesSteps w v limits g at_most turned = (s : RegionState) → Between w s → is_within limits (plain_at s w.state.printed) ≡ true
     → TakesStep w v limits s g at_most turned
 
--- between instructions, where goroutine g has done all that it owes before its next one
+-- between instructions, after goroutine g has done all that it owes before its next one
 pub record Ready (w : World) (s : RegionState) (g : ℕ) : Type 0 where
   pub between : Between w s
   pub works : Works w s g []
 
--- the world is at some state within the limits, at which goroutine g is ready
+-- From any state at which goroutine g is ready and the limits allow a step, it takes a turn of at most one step. The functions for the
+-- kinds of instructions all say this, so that `perform` can choose among them.
+abbrev pub StepsWhenReady : World → World → Limits → (g : ℕ) → Turned → Type 0
+StepsWhenReady w v limits g turned = (s : RegionState) → Ready w s g → is_within limits (plain_at s w.state.printed) ≡ true
+    → TakesStep w v limits s g 1 turned
+
+-- The world is at some state within the limits, at which goroutine g is ready. It is the premise of what is done then: with no such
+-- state there would be nothing to promise.
 pub record WorldIsReady (w : World) (limits : Limits) (g : ℕ) : Type 0 where
   pub state : RegionState
   pub ready : Ready w state g
@@ -275,7 +285,7 @@ pub record WorldMeets (w v : World) (s : RegionState) (receiver sender : ℕ) : 
   pub sizes : v.sizes ≡ w.sizes
   pub prints : SamePrint w v s state
 
--- the turn that is over by a step with a region that was not done
+-- the turn that ends because a step with a region was not done
 abbrev pub halted : Halt → Turned
 halted halt.NoMemory = record { steps = 0; stop = stop.NoMemory }
 halted (halt.NoRoom why) = record { steps = 0; stop = stop.NoRoom why }
@@ -289,7 +299,7 @@ TriesMeeting w v receiver sender (Err e) = SameRun w v
 
 -- ---- kinds of next instructions
 
--- no call, no start and no return
+-- it neither calls, starts nor returns
 abbrev pub ActsBy : Op → Type 0
 ActsBy (Call to n from) = ⊥
 ActsBy (Go n from) = ⊥

@@ -30,7 +30,7 @@ pub record HoldersShow (w : World) (s : RegionState) : Type 0 where
   pub as_many : length w.holders.items ≡ length s.holders
   pub each : (g : ℕ) (c : Holder) (h : spec.Holder) → slice_get w.holders.items g ≡ Some c
       → slice_get s.holders g ≡ Some h → HolderShows c h
-  -- both say the same of a region that is not made yet
+  -- Both say the same of a region that is not made yet. Without this a creation would have to look at the fills of every goroutine.
   pub unmade : (g : ℕ) (c : Holder) (h : spec.Holder) → slice_get w.holders.items g ≡ Some c
       → slice_get s.holders g ≡ Some h → (r : ℕ) → length s.regions ≤ r
       → fill_in c (Numbered r) ≡ fill_of h.fills (Numbered r)
@@ -55,7 +55,7 @@ abbrev pub HasNoRegionSteps : (first : Bool) → Option CodeInstr → Type 0
 HasNoRegionSteps first instr =
     (creates_in instr ≡ []) × ((if first then removes_in instr else otherwise_in instr) ≡ [])
 
--- so if that way is not marked
+-- this holds for each way that is not marked
 abbrev pub Marks : WayMark → Option CodeInstr → Type 0
 Marks mark instr = (first : Bool) → is_marked mark first ≡ false → HasNoRegionSteps first instr
 
@@ -80,8 +80,8 @@ abbrev pub next_creates : Code → List TacFrame → List ℕ
 next_creates code [] = []
 next_creates code (frame ∷ callers) = creates_in (current code frame)
 
--- a goroutine owes what is left of the steps before its next instruction; those that follow the creations are done
--- together
+-- A goroutine owes what is left of the steps before its next instruction. Those that follow the creations are done together, since no
+-- room can be lacking for them.
 pub record OwesNext (code : Code) (s : RegionState) (g : ℕ) (c : Holder) (h : spec.Holder) : Type 0 where
   pub left : h.duties ≡ drop c.done (next_duties code (frames_of s.plain g))
   pub within : c.done ≤ length (next_duties code (frames_of s.plain g))

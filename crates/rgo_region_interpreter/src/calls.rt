@@ -1,4 +1,5 @@
-//! Calls, starts and returns: what they do to the names and regions of goroutines.
+//! Calls, starts and returns: what they do to the names and regions of goroutines. They come after the instruction itself, and take no
+//! stake: the stakes of a new goroutine were shared before it started, and a call's stay with the goroutine.
 
 ghost use Rattle.std.specs.Prelude.{◌≡◌, [], ℕ, List, IfOk, OnOk, map, slice_get};
 ghost use Rattle.std.specs.List.Sorted.{IsStrictlyIncreasing};
@@ -46,7 +47,8 @@ fn passed_regions(
     Ok(regions)
 }
 
-/// Binds a name to the region that is passed for it, if one is. The first of two equal names counts.
+/// Binds a name to the region that is passed for it, if one is. The first of two equal names counts, as a search in the machine's list
+/// finds the first.
 ///
 /// # Errors
 ///
@@ -63,7 +65,8 @@ fn bind_first(names: &mut Names, name: u32, passed: Option<Region>) -> Result<()
     }
 }
 
-/// Binds the names of a called function to the regions that are passed by the names of the caller.
+/// Binds the names of a called function to the regions that are passed by the names of the caller. The two lists of a call are equally
+/// long; if they were not, the rest of the longer one would not count, as in the definition.
 ///
 /// # Errors
 ///
@@ -87,7 +90,8 @@ fn fill(
     Ok(())
 }
 
-/// The regions that are passed at two positions, each once, in the order in which they end.
+/// The regions that are passed at two positions, each once, in the order in which they end. The loop goes from the back, as the
+/// definition recurs: a region is listed when it is met for the second time from there.
 fn twice(alloc: Global, regions: &[Option<Region>]) -> Result<Vec<usize>, AllocError>
     ensures { IfOk result (λ found. map Numbered found.items ≡ owed.twice regions.now) }
 {
@@ -140,8 +144,8 @@ fn same_class(a: Class, b: Class) -> bool
     }
 }
 
-/// Takes away the names of a caller that it leaves to its callee: those that it passes, does not protect, and does not
-/// pass for the callee's result.
+/// Takes away the names of a caller that it gives to its callee: those that it passes, does not protect, and does not pass for the
+/// callee's result. The search needs the lists of names in the code to be ascending.
 fn leave_given(
     holder: &mut Holder,
     lent: Class,
@@ -195,7 +199,8 @@ impl<'a> World<'a> {
         }
     }
 
-    /// A goroutine has called a function: its newest names are those of the callee.
+    /// A goroutine has called a function: its newest names are those of the callee. They are bound before the caller loses what it
+    /// gives, since they get what the caller's names denote.
     ///
     /// # Errors
     ///
@@ -231,7 +236,8 @@ impl<'a> World<'a> {
         Ok(())
     }
 
-    /// A goroutine has started another, which has the stakes that were shared for it.
+    /// A goroutine has started another, which has the stakes that were shared for it. No stake is counted here: each share has added
+    /// its own.
     ///
     /// # Errors
     ///

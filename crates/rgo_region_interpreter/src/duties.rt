@@ -2,14 +2,12 @@
 //! number in its holder says how much of it is done, so a turn may end between any two of these steps and lose nothing.
 
 ghost use Rattle.std.specs.Prelude.{◌≡◌, ◌+◌, ◌++◌, ◌∷◌, [], ℕ, List, Some, true, MatchResult, OnOk, length, map, slice_get};
-ghost use Rattle.rgo_memory.specs.Memory as plain;
-ghost use Rattle.rgo_region_machine.specs.declared.regions.Region.TheVariants.{Numbered};
 ghost use Rattle.rgo_region_machine.specs.Owed.{regions_named};
-ghost use Rattle.rgo_region_machine.specs.Regions.{RegionInfo, is_live, with_info, one_fewer};
+ghost use Rattle.rgo_region_machine.specs.Regions.{one_fewer};
 ghost use Rattle.rgo_region_machine.specs.States as region;
 ghost use Rattle.rgo_region_machine.specs.States.{Duty, Create, Protect, Unprotect, Remove, EndBase, RegionState};
 ghost use Rattle.rgo_region_interpreter.specs.Attending.{has_key, EndsStake, SharesOne, CreatesAll, ProtectsAll, SharesAll, FailsToCreate};
-ghost use Rattle.rgo_region_interpreter.specs.Tables.{AreMade, MemoryShows, RegionTableShows};
+ghost use Rattle.rgo_region_interpreter.specs.Tables.{MemoryLeaves, TableChanges};
 ghost use Rattle.rgo_region_interpreter.specs.Works.{Works, Attended, WorldAttends, WorldHalts, Between, SameRun, KeepsOthers, IsNextInWorld, Readies, Falls, done_of};
 
 use crate::tables::Table;
@@ -24,21 +22,16 @@ use std::collections::HashMap;
 
 /// A stake in a live region ends, and with the last one the region.
 fn leave_region(table: &mut Table, state: &mut State<Frame>, r: usize)
-    ensures left { (regions : List RegionInfo) (global_pages : ℕ) (owners : List _)
-        → is_live regions (Numbered r) ≡ true → RegionTableShows table.old regions global_pages owners
-        → RegionTableShows table.new (with_info regions r one_fewer) global_pages owners }
-    ensures memory { (regions : List RegionInfo) (global_pages : ℕ) (owners : List _) (whole : plain.Memory)
-        → is_live regions (Numbered r) ≡ true → RegionTableShows table.old regions global_pages owners
-        → AreMade regions owners → length owners ≡ length whole.heap
-        → MemoryShows state.old.memory regions owners whole
-        → MemoryShows state.new.memory (with_info regions r one_fewer) owners whole }
+    ensures left { TableChanges table.old table.new r one_fewer }
+    ensures memory { MemoryLeaves table.old state.old.memory state.new.memory r }
     ensures same { state.new ≡ record state.old { memory = state.new.memory } }
 {
     table.leave(&mut state.memory, r);
 }
 
 impl<'a> World<'a> {
-    /// Creates a region for a name of a goroutine's newest frame.
+    /// Creates a region for a name of a goroutine's newest frame. Room is tested first, so without it nothing has changed. The number
+    /// of live regions is that of all goroutines together.
     fn create(&mut self, alloc: Global, g: usize, name: u32) -> Result<(), Halt>
         ensures created { MatchResult result (λ _. (rest : List Duty) → WorldAttends self.old self.new g (Create name ∷ rest) rest)
             (λ halt. WorldHalts halt self.old self.new) }
@@ -81,7 +74,8 @@ impl<'a> World<'a> {
         }
     }
 
-    /// A stake for a goroutine that is about to start, in the region of a name; one for each region.
+    /// A stake for a goroutine that is about to start, in the region of a name; one for each region. `shared` has the regions that were
+    /// shared for this start already.
     fn share(
         &mut self,
         g: usize,
@@ -112,7 +106,8 @@ impl<'a> World<'a> {
         Ok(())
     }
 
-    /// A goroutine's stake in a region ends, unless the goroutine protects the region.
+    /// A goroutine's stake in a region ends, unless the goroutine protects the region. That it has a stake is not tested: it comes here
+    /// only with a region that a name of its own denoted, or that is in its base.
     fn end_stake(&mut self, g: usize, region: Region)
         ensures ended { EndsStake self.old self.new g region }
         ensures done { done_of self.new g ≡ done_of self.old g }
@@ -130,7 +125,7 @@ impl<'a> World<'a> {
         leave_region(&mut self.table, &mut self.state, r);
     }
 
-    /// A name is removed.
+    /// A name is removed: it denotes nothing from now on, even if its region is protected and stays.
     fn remove(&mut self, g: usize, name: u32)
         ensures removed { (rest : List Duty) → WorldAttends self.old self.new g (Remove name ∷ rest) rest }
         ensures done { done_of self.new g ≡ done_of self.old g }
@@ -165,8 +160,7 @@ impl<'a> World<'a> {
         }
     }
 
-    /// A goroutine has returned: the regions that were given at two positions when it started are unprotected and
-    /// removed.
+    /// A goroutine has returned: the regions that were passed at two positions when it started are unprotected and removed.
     pub(crate) fn end_base(&mut self, g: usize)
         ensures ended { (s : RegionState) (h : region.Holder) → slice_get s.holders g ≡ Some h
             → Works self.old s g (map EndBase h.base) → Attended self.old self.new s g [] }
@@ -214,7 +208,8 @@ impl<'a> World<'a> {
         }
     }
 
-    /// Creates what is left to create before a goroutine's next instruction.
+    /// Creates what is left to create before a goroutine's next instruction. Each creation is counted when it is done, so after a lack
+    /// of room a later turn creates none of them twice.
     fn create_all(&mut self, alloc: Global, g: usize, names: &[u32]) -> Result<(), Halt>
         ensures created { MatchResult result (λ _. CreatesAll self.old self.new g names.now)
             (λ halt. FailsToCreate halt self.old self.new g names.now) }
@@ -239,7 +234,8 @@ impl<'a> World<'a> {
         Ok(())
     }
 
-    /// The regions that a goroutine's start passes are shared, unless they are.
+    /// The regions that a goroutine's start passes are shared, unless they are. Either none is shared yet or all are: no room is needed
+    /// for a share, so a turn never ends between two of them.
     fn share_all(
         &mut self,
         alloc: Global,
@@ -266,7 +262,8 @@ impl<'a> World<'a> {
         Ok(())
     }
 
-    /// Does what is left to do of what a goroutine owes before its next instruction.
+    /// Does what is left to do of what a goroutine owes before its next instruction. The creations come first, as in the machine: what
+    /// is protected or shared may have just been created.
     pub(crate) fn prepare(&mut self, alloc: Global, g: usize, next: &Next<'a>) -> Result<(), Halt>
         requires next { IsNextInWorld self.old g next.now }
         ensures readied { MatchResult result (λ _. (s : RegionState) → Between self.old s → Readies self.old self.new s g)
@@ -286,7 +283,8 @@ impl<'a> World<'a> {
         Ok(())
     }
 
-    /// Nothing is done yet of what a goroutine owes before its next instruction.
+    /// Nothing is done yet of what a goroutine owes before its next instruction. Called after each instruction, before its removals,
+    /// which are not counted.
     pub(crate) fn owe(&mut self, g: usize)
         ensures works { (s : RegionState) (duties : List Duty) → Works self.old s g duties → Works self.new s g duties }
         ensures done { done_of self.new g ≡ 0 }

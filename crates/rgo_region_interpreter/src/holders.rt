@@ -1,4 +1,5 @@
-//! What a goroutine has of the regions.
+//! What a goroutine has of the regions. The machine keeps lists of bindings and of protections; here names are indices, and protections
+//! are counted by region, so no look-up goes through a list.
 
 ghost use Rattle.std.specs.Prelude.{◌≡◌, ◌<◌, ◌+◌, ◌-◌, ◌∷◌, [], ℕ, List, Bool, Option, Some, None, true, unwrap_or, IfOk, OnOk, OnErr, length, nat_lt};
 ghost use Rattle.rgo_region_machine.specs.Regions.{Bindings, bound, unbind};
@@ -22,15 +23,16 @@ pub(crate) struct Holder {
     spare: Vec<Names>,
     /// How many protections each region has, in its frames and by its base.
     pub(crate) protections: HashMap<usize, usize>,
-    /// The regions that were given at two positions when it started, in the order in which they end.
+    /// The regions that were passed at two positions when it started, in the order in which they end.
     pub(crate) base: Vec<usize>,
     /// How many words are used of the page that it fills in each region.
     pub(crate) fills: HashMap<usize, usize>,
-    /// The same of Global, if it has a page there.
+    /// The same for Global, if it has a page there.
     pub(crate) global_fill: Option<usize>,
     /// How many pages it has taken so far for the spread object that its next instruction makes.
     pub(crate) reserved: usize,
-    /// How many of the steps are done that it owes before its next instruction.
+    /// How many of the steps are done that it owes before its next instruction. A turn may end between two of them for want of room,
+    /// and a later turn continues after these.
     pub(crate) done: usize,
 }
 
@@ -72,7 +74,7 @@ fn unbind(names: &mut Names, name: u32)
 }
 
 impl Holder {
-    /// The holder of a goroutine that starts with one frame: its names, and the regions that were given at two positions, which it
+    /// The holder of a goroutine that starts with one frame: its names, and the regions that were passed at two positions, which it
     /// protects until it ends.
     ///
     /// # Errors
@@ -142,7 +144,7 @@ impl Holder {
         }
     }
 
-    /// A list without names for a function that is called, from those that are spare.
+    /// A list without names for a function that is called, from those that are spare: calls in a loop then allocate nothing.
     pub(crate) fn take_spare(&mut self, alloc: Global) -> Names
         ensures empty { result.items ≡ [] }
         ensures kept { spec.Same self.old self.new }
@@ -184,7 +186,7 @@ impl Holder {
         }
     }
 
-    /// One more protection of a region.
+    /// One more protection of a region. Global is left out, since nothing removes it.
     ///
     /// # Errors
     ///
@@ -204,7 +206,7 @@ impl Holder {
         Ok(())
     }
 
-    /// One protection of a region ends.
+    /// One protection of a region ends. The entry goes with the last one, so the map has only what is protected.
     pub(crate) fn unprotect(&mut self, region: Region)
         ensures { spec.Unprotects self.old self.new region }
     {
@@ -221,7 +223,7 @@ impl Holder {
         }
     }
 
-    /// Ends the protection of the first region that was given at two positions, and returns it; `None` if none is left.
+    /// Ends the protection of the first region that was passed at two positions, and returns it; `None` if none is left.
     pub(crate) fn end_base(&mut self) -> Option<usize>
         ensures { spec.HolderEndsBase self.old self.new result }
     {
@@ -301,7 +303,8 @@ impl Holder {
         }
     }
 
-    /// Its stake in a region has ended: it fills no page there.
+    /// Its stake in a region has ended: it fills no page there. The number is never used again, so to keep the entry would only take
+    /// memory.
     pub(crate) fn leave(&mut self, r: usize)
         ensures { spec.HolderLeaves self.old self.new r }
     {

@@ -1,4 +1,5 @@
-//! One instruction of a goroutine, with its regions.
+//! One instruction of a goroutine, with its regions. The order is the machine's: what is owed before it, room for the object that it
+//! makes, the instruction on the three-address machine, and what is owed after it.
 
 ghost use Rattle.std.specs.Prelude.{◌≡◌, ◌++◌, ◌∷◌, [], map, true, None, Some, MatchOption, slice_get};
 ghost use Rattle.rgo_machine.specs.Limits.{is_within};
@@ -8,7 +9,7 @@ ghost use Rattle.rgo_region_machine.specs.States as region;
 ghost use Rattle.rgo_region_machine.specs.States.{EndBase, Remove, Unprotect, RegionState, frames_of, plain_at};
 ghost use Rattle.rgo_region_interpreter.specs.Objects.{IsRoomy, GoroutineMakesNext, MakesNone, RemovesBehind};
 ghost use Rattle.rgo_region_interpreter.specs.Works as works;
-ghost use Rattle.rgo_region_interpreter.specs.Works.{Between, BothWork, Ready, WorldIsBetween, WorldIsReady, IsNextInFrame, IsNextInWorld, ActsNext, CallsNext, StartsNext, ReturnsNext, OthersOwe, WorldSettled, MayStep, WorldTakesTurn, TakesStep, WorldTakesSteps, Works};
+ghost use Rattle.rgo_region_interpreter.specs.Works.{BothWork, WorldIsBetween, WorldIsReady, IsNextInFrame, IsNextInWorld, ActsNext, CallsNext, StartsNext, ReturnsNext, OthersOwe, WorldSettled, MayStep, WorldTakesTurn, StepsWhenReady, TakesStep, WorldTakesSteps, Works};
 
 use crate::objects::{Making, next_object};
 use crate::worlds::{Next, World};
@@ -82,7 +83,8 @@ fn without_regions(stop: TurnEnd) -> TurnEnd
 }
 
 impl<'a> World<'a> {
-    /// A goroutine does its next instruction on the three-address machine.
+    /// A goroutine does its next instruction on the three-address machine, whose code has no regions and whose memory is what the world
+    /// keeps of it.
     fn plain(&mut self, alloc: Global, limits: Limits, g: usize) -> Turned
         requires running { self.old.state.ended ≡ None }
         requires within { is_within limits self.old.state ≡ true }
@@ -96,8 +98,8 @@ impl<'a> World<'a> {
         }
     }
 
-    /// A goroutine calls a function or returns to a caller, if it can at once. Returns whether it did; if not, nothing
-    /// changed.
+    /// A goroutine calls a function or returns to a caller, if it can at once. Returns whether it did; if not, nothing changed. It is a
+    /// faster way to the same step, so it may always return `false`.
     fn transfer_at_once(&mut self, alloc: Global, g: usize) -> bool
         ensures { MayStep self.old self.new g result }
     {
@@ -156,7 +158,8 @@ impl<'a> World<'a> {
         self.plain(alloc, limits, g)
     }
 
-    /// After an instruction: these names are removed, and the goroutine owes all that comes before its next one.
+    /// After an instruction: these names are removed, and the goroutine owes all that comes before its next one. The count of what is
+    /// done is reset first, since the removals do not belong to what it counts.
     fn settle(&mut self, g: usize, removes: &[u32])
         ensures settled { (s : RegionState)
             → Works self.old s g (map Remove removes.now ++ owed.next_duties self.old.code.now (frames_of s.plain g))
@@ -166,8 +169,9 @@ impl<'a> World<'a> {
         self.remove_all(g, removes);
     }
 
-    /// After an instruction of two goroutines, or by which one starts the other: these names of each are removed, and both
-    /// owe all that comes before their next instructions.
+    /// After an instruction of two goroutines, or by which one starts the other: these names of each are removed, and both owe all that
+    /// comes before their next instructions. One follows the other: both have stakes of their own, so what one removes stays live for
+    /// the other.
     pub(crate) fn settle_both(&mut self, g: usize, removes: &[u32], j: usize, others: &[u32])
         ensures settled { (s : RegionState) → BothWork self.old s g removes.now j others.now → WorldSettled self.old self.new s }
     {
@@ -177,7 +181,8 @@ impl<'a> World<'a> {
         self.remove_all(j, others);
     }
 
-    /// After a call has returned: the protections of these names end, and those are removed.
+    /// After a call has returned: the protections of these names end, and then names are removed. In the other order the removals would
+    /// find their regions protected, and do nothing.
     fn settle_call(&mut self, g: usize, protects: &[u32], removes: &[u32])
         ensures settled { (s : RegionState)
             → Works self.old s g ((map Unprotect protects.now ++ map Remove removes.now)
@@ -189,7 +194,7 @@ impl<'a> World<'a> {
         self.remove_all(g, removes);
     }
 
-    /// After a goroutine's last return: what it was given at two positions is unprotected and removed.
+    /// After a goroutine's last return: what it was passed at two positions is unprotected and removed.
     fn settle_end(&mut self, g: usize)
         ensures settled { (s : RegionState) (h : region.Holder) → slice_get s.holders g ≡ Some h
             → frames_of s.plain g ≡ [] → Works self.old s g (map EndBase h.base) → OthersOwe self.old s g
@@ -212,8 +217,7 @@ impl<'a> World<'a> {
         requires makes { MakesNone self.old g next.now }
         requires removes { RemovesBehind self.old g next.now removes.now }
         requires ready { WorldIsReady self.old limits g }
-        ensures takes { (s : RegionState) → Ready self.old s g → is_within limits (plain_at s self.old.state.printed) ≡ true
-            → TakesStep self.old self.new limits s g 1 result }
+        ensures takes { StepsWhenReady self.old self.new limits g result }
     {
         let turned = self.plain(alloc, limits, g);
         if goes_on(turned) {
@@ -222,7 +226,8 @@ impl<'a> World<'a> {
         turned
     }
 
-    /// An instruction that makes an object, which has room; after it these names are removed.
+    /// An instruction that makes an object, which has room; after it these names are removed. The number of the object is asked before
+    /// the instruction, since a new object is put at the end of the heap.
     fn act_making(
         &mut self,
         alloc: Global,
@@ -259,8 +264,7 @@ impl<'a> World<'a> {
         requires next { IsNextInWorld self.old g next.now }
         requires kind { ActsNext next.now }
         requires ready { WorldIsReady self.old limits g }
-        ensures takes { (s : RegionState) → Ready self.old s g → is_within limits (plain_at s self.old.state.printed) ≡ true
-            → TakesStep self.old self.new limits s g 1 result }
+        ensures takes { StepsWhenReady self.old self.new limits g result }
     {
         let Some(frame) = self.newest(g) else {
             return Turned {
@@ -290,8 +294,7 @@ impl<'a> World<'a> {
         requires next { IsNextInWorld self.old g next.now }
         requires calls { CallsNext next.now callee }
         requires ready { WorldIsReady self.old limits g }
-        ensures takes { (s : RegionState) → Ready self.old s g → is_within limits (plain_at s self.old.state.printed) ≡ true
-            → TakesStep self.old self.new limits s g 1 result }
+        ensures takes { StepsWhenReady self.old self.new limits g result }
     {
         let turned = self.transfer(alloc, limits, g);
         if !goes_on(turned) {
@@ -317,8 +320,7 @@ impl<'a> World<'a> {
         requires next { IsNextInWorld self.old g next.now }
         requires starts { StartsNext next.now callee }
         requires ready { WorldIsReady self.old limits g }
-        ensures takes { (s : RegionState) → Ready self.old s g → is_within limits (plain_at s self.old.state.printed) ≡ true
-            → TakesStep self.old self.new limits s g 1 result }
+        ensures takes { StepsWhenReady self.old self.new limits g result }
     {
         let turned = self.plain(alloc, limits, g);
         if !goes_on(turned) {
@@ -333,7 +335,8 @@ impl<'a> World<'a> {
         turned
     }
 
-    /// The call at which the caller of a goroutine's newest frame waits; `None` if there is no caller.
+    /// The call at which the caller of a goroutine's newest frame waits; `None` if there is no caller. It has to be asked before the
+    /// return, which moves the caller past its call.
     fn call_below(&self, g: usize) -> Option<Next<'a>>
         ensures { (frame : _) (callers : _) → slice_get self.now.state.goroutines g ≡ Some (frame ∷ callers)
             → MatchOption result (works.NoCallBelow self.now callers) (works.IsCallBelow self.now callers) }
@@ -346,12 +349,11 @@ impl<'a> World<'a> {
         self.next_of(&frames[depth - 2])
     }
 
-    /// A return.
+    /// A return, to a caller or of the goroutine's last function.
     fn give_back(&mut self, alloc: Global, limits: Limits, g: usize) -> Turned
         requires next { ReturnsNext self.old g }
         requires ready { WorldIsReady self.old limits g }
-        ensures takes { (s : RegionState) → Ready self.old s g → is_within limits (plain_at s self.old.state.printed) ≡ true
-            → TakesStep self.old self.new limits s g 1 result }
+        ensures takes { StepsWhenReady self.old self.new limits g result }
     {
         let call = self.call_below(g);
         let turned = self.transfer(alloc, limits, g);
@@ -373,8 +375,7 @@ impl<'a> World<'a> {
     fn perform(&mut self, alloc: Global, limits: Limits, g: usize, next: &Next<'a>) -> Turned
         requires next { IsNextInWorld self.old g next.now }
         requires ready { WorldIsReady self.old limits g }
-        ensures takes { (s : RegionState) → Ready self.old s g → is_within limits (plain_at s self.old.state.printed) ≡ true
-            → TakesStep self.old self.new limits s g 1 result }
+        ensures takes { StepsWhenReady self.old self.new limits g result }
     {
         match next.op {
             Op::Call { function, .. } => self.call(alloc, limits, g, next, function as usize),

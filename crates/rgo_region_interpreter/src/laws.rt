@@ -1,4 +1,4 @@
-//! Small examples.
+//! Examples, proved by computation: the counts of pages just below and just above each limit.
 
 ghost use Rattle.rgo_region_interpreter.specs.Extents.{ExtentExamples};
 

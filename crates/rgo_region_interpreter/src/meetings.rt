@@ -9,8 +9,8 @@ use rgo_machine::Pick;
 use std::alloc::{AllocError, Global};
 
 impl<'a> World<'a> {
-    /// A receiver and a sender continue together, if they meet: the sender offers, the two meet, and the sender
-    /// acknowledges that its offer was taken. Returns whether they do.
+    /// A receiver and a sender continue together, if they meet: the sender offers, the two meet, and the sender acknowledges that its
+    /// offer was taken. Returns whether they do. Any two goroutines may be asked: two that do not meet stay as they are.
     ///
     /// # Errors
     ///

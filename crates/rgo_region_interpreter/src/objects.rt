@@ -1,5 +1,5 @@
-//! New objects, and the pages in which they lie. A page is only a number here: how many a region has, and how many words are used
-//! of the one that a goroutine fills. Room is made before the object, so an instruction that lacks a page is not done.
+//! New objects, and their pages. A page is only a number here: how many a region has, and how many words are used of the one that a
+//! goroutine fills. Room is made before the object, so an instruction that lacks a page is not done.
 
 ghost use Rattle.std.specs.Prelude.{◌≡◌, ◌≤◌, ◌+◌, false, slice_get, unwrap_or, Some, MatchResult, OnOk};
 ghost use Rattle.rgo_tac.specs.Frames.{operand_values};
@@ -47,7 +47,8 @@ impl Extent {
         self.words > page_words
     }
 
-    /// How many data pages an object has; none unless it is spread.
+    /// How many data pages an object has; none unless it is spread. In pages of no words it counts as one, as in the definition, where
+    /// a division by 0 returns 0.
     fn data_pages(self, page_words: usize) -> usize
         ensures { result ≡ extents.extent_data_pages page_words self }
     {
@@ -60,7 +61,7 @@ impl Extent {
         }
     }
 
-    /// Whether an object has more data pages than there can be.
+    /// Whether an object needs more data pages than an object can have.
     fn is_too_large(self, page_words: usize) -> bool
         ensures { result ≡ extents.extent_is_too_large page_words self }
     {
@@ -122,7 +123,7 @@ fn slice_extent(size: Value) -> Option<Extent>
     }
 }
 
-/// A channel with such a buffer: at least one cell, and two words for what a channel is.
+/// A channel with a buffer of this size: at least one cell, and two words before the cells.
 fn channel_extent(size: Value) -> Option<Extent>
     ensures { result ≡ spec.sized_extent spec.channel_extent size }
 {
@@ -191,7 +192,8 @@ pub(crate) fn next_object(structs: &[Struct], frame: &Frame, op: Op<'_>) -> Opti
     }
 }
 
-/// Whether an object of `words` words fits what is left of a page of which `used` are used.
+/// Whether an object of `words` words fits what is left of a page of which `used` are used. It is a subtraction, since a sum could
+/// overflow.
 fn has_room(used: Option<usize>, words: usize, page_words: usize) -> bool
     requires { words ≤ page_words }
     ensures { result ≡ fits_in_page page_words used words }
@@ -285,7 +287,7 @@ impl<'a> World<'a> {
         Ok(())
     }
 
-    /// The pages that a goroutine has reserved are those of an object: no other is reserved.
+    /// The pages that a goroutine has reserved become those of an object: none is reserved any more.
     fn use_reserved(&mut self, g: usize)
         ensures uses { ChangesHolder self.old self.new g (λ c d. Reserves c d 0) }
         ensures same { SameRun self.old self.new }
@@ -295,7 +297,7 @@ impl<'a> World<'a> {
         }
     }
 
-    /// A page more is reserved for an object, if it is spread; else it is the goroutine's own in a region.
+    /// A page more is reserved for an object, if it is spread; otherwise it becomes the goroutine's own page in a region.
     fn keep_page(&mut self, g: usize, region: Region, extent: Extent) -> Result<(), AllocError>
         ensures kept { OnOk result (ChangesHolder self.old self.new g
             (λ c d. WithPage (extents.extent_is_spread self.old.sizes.page_words extent) c d region)) }
@@ -330,7 +332,8 @@ impl<'a> World<'a> {
         )
     }
 
-    /// The goroutine takes these pages in a region for its next object.
+    /// The goroutine takes the pages in a region that its next object still needs. Those that it takes before room is lacking stay
+    /// taken and are counted, so a later turn does not take them again.
     fn take_pages(
         &mut self,
         g: usize,
@@ -353,8 +356,8 @@ impl<'a> World<'a> {
         Ok(())
     }
 
-    /// The next object has room: in the goroutine's own page of its region, or in pages that are reserved for it. Where it
-    /// has none, the goroutine takes pages.
+    /// Makes room for the next object: in the goroutine's own page of its region, or in pages that are reserved for it. If there is
+    /// none, the goroutine takes pages.
     pub(crate) fn make_room(
         &mut self,
         g: usize,
@@ -375,8 +378,7 @@ impl<'a> World<'a> {
         self.take_pages(g, next, making, region)
     }
 
-    /// An object takes the pages that are reserved for it, if it is spread; else words of the goroutine's own page in a
-    /// region.
+    /// An object takes the pages that are reserved for it, if it is spread; otherwise words of the goroutine's own page in a region.
     fn use_room(&mut self, g: usize, region: Region, extent: Extent) -> Result<(), AllocError>
         ensures used { OnOk result (ChangesHolder self.old self.new g
             (λ c d. Placed (extents.extent_is_spread self.old.sizes.page_words extent) c d region extent.words)) }
@@ -390,7 +392,7 @@ impl<'a> World<'a> {
         }
     }
 
-    /// An object lies in a region.
+    /// An object belongs to a region from now on, and is freed with it.
     fn put(
         &mut self,
         g: usize,
@@ -406,7 +408,7 @@ impl<'a> World<'a> {
         Ok(())
     }
 
-    /// The object that was made lies in its region, where there is room for it.
+    /// The object that was made is placed in its region. Only called after `make_room` and the instruction, so the room is there.
     pub(crate) fn place(
         &mut self,
         g: usize,

@@ -1,4 +1,5 @@
-//! A run with its regions, as a driver takes it on.
+//! A world as the driver of `rgo_round_robin` sees it: a machine with turns and meetings. The driver knows nothing of regions. It may
+//! call these in any order, since each call leaves the world where any other may follow, unless memory has run out.
 
 use crate::worlds::World;
 use rgo_code::Code;

@@ -1,4 +1,4 @@
-//! How a run begins.
+//! How a run begins: with `main` alone and no region, and nothing done yet of what `main` owes.
 
 ghost use Rattle.std.specs.Prelude.{IfOk};
 ghost use Rattle.rgo_region_interpreter.specs.Works.{WorldStarts};

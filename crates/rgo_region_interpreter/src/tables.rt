@@ -1,12 +1,11 @@
-//! The regions of a run: which are live, what each has, and what there was so far.
+//! The regions of a run: which are live, what each has, and counts of what was made and removed so far. A removed region has no row, so
+//! a long run takes memory only for what is live; the counts are all that is left of the others.
 
-ghost use Rattle.std.specs.Prelude.{◌≡◌, ◌<◌, ◌+◌, ◌-◌, ◌++◌, ◌∷◌, [], ℕ, List, Some, true, OnOk, OnErr, IfOk, length, nat_eq, slice_get};
-ghost use Rattle.rgo_memory.specs.Memory as plain;
+ghost use Rattle.std.specs.Prelude.{◌≡◌, ◌-◌, [], OnOk, OnErr, IfOk};
 ghost use Rattle.rgo_interpreter.specs.Views.{memory_view};
-ghost use Rattle.rgo_region_machine.specs.Regions.{RegionInfo, is_live, with_info, with_added_stake, one_fewer, one_page_more};
-ghost use Rattle.rgo_region_machine.specs.declared.regions.Region.TheVariants.{Global as GlobalRegion, Numbered};
+ghost use Rattle.rgo_region_machine.specs.Regions.{with_added_stake, one_fewer};
 ghost use Rattle.rgo_region_interpreter.specs.Tables as spec;
-ghost use Rattle.rgo_region_interpreter.specs.Tables.{RegionTableShows, MemoryShows, pages_with};
+ghost use Rattle.rgo_region_interpreter.specs.Tables.{RegionTableShows};
 
 use rgo_interpreter::Memory;
 use rgo_region_machine::Region;
@@ -16,11 +15,12 @@ use std::collections::HashMap;
 /// A region that is live.
 #[derive(Drop)]
 pub(crate) struct Row {
-    /// How many stakes there are in it.
+    /// How many stakes exist in it; at least one, since the row goes with the last.
     pub(crate) stakes: usize,
     /// How many pages it has.
     pub(crate) pages: usize,
-    /// Its objects, in the order of their making.
+    /// Its objects, in the order of their making; they are freed with it. Global has no row and no such list: its objects are never
+    /// freed.
     pub(crate) objects: Vec<usize>,
 }
 
@@ -53,30 +53,29 @@ impl Table {
         }
     }
 
-    /// How many regions are live, but for Global.
+    /// How many regions are live, but for Global. The subtraction is exact: each removed region was made.
     pub(crate) fn live(&self) -> usize
         ensures { result ≡ self.now.made - self.now.removed }
     {
         self.made.saturating_sub(self.removed)
     }
 
-    /// How many pages live regions and Global have.
+    /// How many pages live regions and Global have. The subtraction is exact: each returned page was taken.
     pub(crate) fn pages(&self) -> usize
         ensures { result ≡ self.now.taken - self.now.returned }
     {
         self.taken.saturating_sub(self.returned)
     }
 
-    /// A new region, with one stake. Returns its number.
+    /// A new region, with one stake. Returns its number. The row is inserted before the count changes, so a failure leaves both as they
+    /// were.
     ///
     /// # Errors
     ///
     /// On allocation failure. Then nothing changed.
     pub(crate) fn create(&mut self, alloc: Global) -> Result<usize, AllocError>
         ensures number { IfOk result (λ r. r ≡ self.old.made) }
-        ensures created { OnOk result ((regions : List RegionInfo) (global_pages : ℕ) (owners : List _)
-            → spec.AreMade regions owners → RegionTableShows self.old regions global_pages owners
-            → RegionTableShows self.new (regions ++ record { stakes = 1; pages = 0 } ∷ []) global_pages owners) }
+        ensures created { OnOk result (spec.TableCreates self.old self.new) }
         ensures kept { OnErr result (spec.SameTable self.new self.old) }
     {
         let row = Row {
@@ -103,9 +102,7 @@ impl Table {
     ///
     /// If the count of stakes would overflow. Then nothing changed.
     pub(crate) fn share(&mut self, r: usize) -> Result<(), AllocError>
-        ensures shared { OnOk result ((regions : List RegionInfo) (global_pages : ℕ) (owners : List _)
-            → is_live regions (Numbered r) ≡ true → RegionTableShows self.old regions global_pages owners
-            → RegionTableShows self.new (with_info regions r with_added_stake) global_pages owners) }
+        ensures shared { OnOk result (spec.TableChanges self.old self.new r with_added_stake) }
     {
         if let Some(row) = self.rows.get_mut(&r) {
             let Some(stakes) = row.stakes.checked_add(1) else {
@@ -119,14 +116,8 @@ impl Table {
     /// A stake in a live region ends. With the last one the region is removed: its objects are freed, and its pages count as
     /// returned.
     pub(crate) fn leave(&mut self, memory: &mut Memory, r: usize)
-        ensures left { (regions : List RegionInfo) (global_pages : ℕ) (owners : List _)
-            → is_live regions (Numbered r) ≡ true → RegionTableShows self.old regions global_pages owners
-            → RegionTableShows self.new (with_info regions r one_fewer) global_pages owners }
-        ensures memory { (regions : List RegionInfo) (global_pages : ℕ) (owners : List _) (whole : plain.Memory)
-            → is_live regions (Numbered r) ≡ true → RegionTableShows self.old regions global_pages owners
-            → spec.AreMade regions owners → length owners ≡ length whole.heap
-            → MemoryShows (memory_view memory.old) regions owners whole
-            → MemoryShows (memory_view memory.new) (with_info regions r one_fewer) owners whole }
+        ensures left { spec.TableChanges self.old self.new r one_fewer }
+        ensures memory { spec.MemoryLeaves self.old (memory_view memory.old) (memory_view memory.new) r }
     {
         // Never taken: the region is live, so it has a row.
         let Some(row) = self.rows.get_mut(&r) else {
@@ -153,9 +144,7 @@ impl Table {
     ///
     /// If the count of pages would overflow. Then nothing changed.
     pub(crate) fn take_page(&mut self, region: Region) -> Result<(), AllocError>
-        ensures taken { OnOk result ((regions : List RegionInfo) (global_pages : ℕ) (owners : List _)
-            → is_live regions region ≡ true → RegionTableShows self.old regions global_pages owners
-            → RegionTableShows self.new (spec.regions_with_page regions region) (pages_with global_pages region) owners) }
+        ensures taken { OnOk result (spec.TableTakesPage self.old self.new region) }
     {
         let Some(taken) = self.taken.checked_add(1) else {
             return Err(AllocError);
@@ -178,9 +167,7 @@ impl Table {
     ///
     /// On allocation failure. Then nothing changed.
     pub(crate) fn own(&mut self, region: Region, object: usize) -> Result<(), AllocError>
-        ensures owned { OnOk result ((regions : List RegionInfo) (global_pages : ℕ) (owners : List _)
-            → is_live regions region ≡ true → object ≡ length owners → RegionTableShows self.old regions global_pages owners
-            → RegionTableShows self.new regions global_pages (owners ++ region ∷ [])) }
+        ensures owned { OnOk result (spec.TableOwns self.old self.new region object) }
     {
         if let Region::Numbered(r) = region {
             if let Some(row) = self.rows.get_mut(&r) {

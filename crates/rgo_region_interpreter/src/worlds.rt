@@ -1,4 +1,4 @@
-//! A run with its regions.
+//! The state of a recorded run, and what the other modules ask of it most: a goroutine's newest frame and its next instruction.
 
 ghost use Rattle.std.specs.Prelude.{◌≡◌, ◌∷◌, [], Some, None, MatchOption, OnSome, slice_get};
 ghost use Rattle.rgo_tac.specs.Tac.{tac};
@@ -33,7 +33,8 @@ pub struct World<'a> {
     pub(crate) holders: Vec<Holder>,
 }
 
-/// Why a step with a region was not done.
+/// Why a step with a region was not done. For want of room nothing has changed, and the run ends with the world as it is. For want of
+/// memory a step may be half done: then only the print is still that of a run.
 #[derive(Clone, Copy)]
 pub(crate) enum Halt {
     NoMemory,
@@ -49,7 +50,7 @@ impl From<AllocError> for Halt {
 }
 
 impl Halt {
-    /// A turn without steps that is over by it.
+    /// A turn without steps that ends for this reason.
     pub(crate) fn turned(self) -> Turned
         ensures { result ≡ spec.halted self }
     {
@@ -63,7 +64,7 @@ impl Halt {
     }
 }
 
-/// The next instruction of a goroutine.
+/// The next instruction of a goroutine. It borrows from the code and not from the world, so the world can change while it is in use.
 #[derive(Drop)]
 pub(crate) struct Next<'a> {
     pub(crate) function: CodeFn<'a>,
@@ -94,7 +95,7 @@ impl<'a> World<'a> {
         })
     }
 
-    /// The next instruction of a goroutine.
+    /// The next instruction of a goroutine; `None` if it has returned or does not exist.
     #[inline(always)]
     pub(crate) fn next(&self, g: usize) -> Option<Next<'a>>
         ensures { MatchOption result (spec.GoroutineHasNoNext self.now g) (IsNextInWorld self.now g) }

@@ -1,5 +1,5 @@
--- An instruction of one goroutine with its regions: the state to which the region machine's step leads, and what the
--- world shows of it.
+-- An instruction of one goroutine with its regions: the state to which the region machine's step leads, and what the world shows of it.
+-- All kinds of instructions go through this file; they differ in the holder afterwards, which is an argument here.
 use Rattle.std.proofs.Common.{◌≡◌, ℕ, ◌≤◌, false, List, [], ◌∷◌, ◌++◌, map}
 use Rattle.std.proofs.Common.{length, Option, Some, None, refl, sym, ap, ◌∙◌, subst, nat_eq, arith}
 use Rattle.std.proofs.Common.{slice_get, slice_set, option_map}
@@ -174,7 +174,7 @@ module _ (w v : World) (s : RegionState) (limits : Limits) (g : ℕ) {frame : Ta
       pub prepared_so : Prepared u
       prepared_so = subst Prepared (sym u_is) prepared_now
 
-      -- where the run has ended
+      -- if the run has ended, the world no longer has to show the holders
       ended_mark : (e : End) → v.state.ended ≡ Some e → end_in next_state.mark ≡ None → ⊥
       ended_mark e q m = some_none (sym (sym shows_state.ended ∙ q) ∙ m)
         where
@@ -187,7 +187,7 @@ module _ (w v : World) (s : RegionState) (limits : Limits) (g : ℕ) {frame : Ta
         subst (λ z. Shown z next_state) (sym u_is) (shown_now (λ m. absurd (ended_mark e q (ap end_in m)))),
       )
 
-      -- where it continues
+      -- if it continues
       module _ (running : v.state.ended ≡ None) where
         not_ended : y.next.ended ≡ None
         not_ended = sym y.ended ∙ running
@@ -237,7 +237,7 @@ module _ (w v : World) (s : RegionState) (limits : Limits) (g : ℕ) {frame : Ta
           works_by = subst (λ z. Works z next_state g k.duties) (sym u_is)
               (works_now (subst (λ z. HoldersShow z next_state) u_is shows))
 
-        -- where it starts no other, and has d in place of c
+        -- if it starts no other, and has d in place of c
         module _ (started : x.act.started ≡ []) (k : spec.Holder)
             (k_is : next_state.holders ≡ slice_set s.holders g k) (c d : Holder)
             (there : slice_get w.holders.items g ≡ Some c) (d_is : u.holders.items ≡ slice_set w.holders.items g d)
@@ -260,7 +260,7 @@ module _ (w v : World) (s : RegionState) (limits : Limits) (g : ℕ) {frame : Ta
               → OwesNext z next_state j c h) (sym code_kept)
               (others_owe changes w.code.now (other_frames started) (others_between w s g ready.between))
 
-        -- of an instruction that is no call, no start and no return
+        -- for an instruction that neither calls, starts nor returns
         module _ (simple : IsSimple instr.op) (c d : Holder) (there : slice_get w.holders.items g ≡ Some c)
             (d_is : u.holders.items ≡ slice_set w.holders.items g d)
             (shows : (ds : List Duty) → HolderShows d (record ready.works.holder { fills = fills; reserved = reserved; duties = ds }))

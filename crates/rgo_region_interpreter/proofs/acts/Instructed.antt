@@ -1,5 +1,6 @@
--- The steps of the region machine for an instruction of one goroutine: the page that it takes before it makes an object,
--- and the instruction itself.
+-- The steps of the region machine for an instruction of one goroutine: the page that it takes before it makes an object, and the
+-- instruction itself. The machine finds the object by trying its step over the whole memory; the code computes its size beforehand
+-- (Making.antt).
 use Rattle.std.proofs.Common.{◌≡◌, ℕ, ◌+◌, ◌-◌, ◌/◌, ◌≤◌, ◌<◌, Bool, true, false, not, ◌&&◌, List, [], ◌∷◌, ◌++◌, length}
 use Rattle.std.proofs.Common.{Option, Some, None, refl, sym, ap, ◌∙◌, subst, nat_le, nat_lt, if◌then◌else◌, true≢false}
 use Rattle.std.proofs.Common.{slice_get, option_map, option_and_then, arith, length-append}
@@ -71,7 +72,7 @@ module _ {code : Code} {s : RegionState} {g : ℕ} {h : Holder} {frame : TacFram
       → plain_step code s.plain (One g) ≡ Some (after s.plain g a)
   step_of a q = steps_alone code s.plain g i.running ∙ ap (option_map (after s.plain g)) (acted_by ∙ q)
 
-  -- ---- where no object is made
+  -- ---- no object is made
 
   none_larger : making_by code.structs frame (erased_op instr.op) ≡ None → (a : Acted)
       → alone (erased code) s.plain.memory (frame ∷ callers) ≡ Some a
@@ -176,7 +177,7 @@ module _ {code : Code} {s : RegionState} {g : ℕ} {h : Holder} {frame : TacFram
         → is_too_large page_words made.object ≡ extents.extent_is_too_large page_words making.extent
     too_large_is page_words = ap (nat_lt (most_data_pages page_words)) (data_is page_words)
 
-    -- it wants more data pages than there can be
+    -- it needs more data pages than an object can have
     pub too_large : (page_words : ℕ) → extents.extent_is_too_large page_words making.extent ≡ true → (next : TacState)
         × (plain_step code s.plain (One g) ≡ Some next) × MakesTooLarge page_words s.plain next
     too_large page_words large = (

@@ -1,4 +1,5 @@
--- The object that an instruction makes: what the code counts of it before is what the three-address machine makes.
+-- The object that an instruction makes: the size that the code computes beforehand is that of the object which the three-address
+-- machine makes, over whatever memory. So room can be made before the step.
 use Rattle.std.proofs.Common.{◌≡◌, ℕ, ◌+◌, true, false, List, [], ◌∷◌, ◌++◌, map, length, Option, Some, None}
 use Rattle.std.proofs.Common.{refl, sym, subst, ap, ◌∙◌, true≢false, slice_get, max, replicate}
 use Rattle.std.specs.Prelude.{pos, negsuc}
@@ -151,7 +152,7 @@ module _ (code : Tac) (place : ℕ) (frame : TacFrame) (callers : List TacFrame)
   makes (Branch test target other) making e = cc
   makes (Return v) making e = cc
 
--- ---- where none is made
+-- ---- no object is made
 
 module _ (structs : List Struct) (ty : «Type») (m : Memory) where
   sized_none : (extent : ℕ → Extent) (object : ℕ → Object) (d : ℕ) (size : Value)
@@ -167,7 +168,7 @@ module _ (structs : List Struct) (ty : «Type») (m : Memory) where
   struct_none d None e = refl
   struct_none d (Some of) e = cc
 
-  -- an action that could make an object, and gives a variable a value
+  -- an action that could make an object, and writes a variable
   pub makes_none : (a : Action) (d : ℕ) (vs : List Value) → makes_object a ≡ true
       → making_of (Some d) (extent_made structs a vs) ≡ None → Always (MakesNoObject m) (performed structs a ty vs m)
   makes_none (action.New n) d [] t e = struct_none d (slice_get structs n) e

@@ -1,5 +1,5 @@
--- An instruction that is no call, no start and no return, from its parts: where there is no room for the object that it
--- makes, where it makes one, and where it makes none.
+-- An instruction that neither calls, starts nor returns, from its parts: without room for the object that it makes, with an object, and
+-- without one.
 use Rattle.std.proofs.Common.{◌≡◌, ℕ, true, ◌&&◌, List, [], length, Option, Some, None, sym, ap, ◌∙◌, subst}
 use Rattle.std.proofs.Common.{nat_le, slice_get}
 use Rattle.std.specs.List.{list_all}
@@ -38,7 +38,7 @@ the_frame : (w : World) (g : ℕ) (next : Next) (at : IsNextInWorld w g next) (f
     → frame ≡ at.frame
 the_frame w g next at frame is = the_same frame at.frame (sym is ∙ newest_is w g next at)
 
--- what is removed behind an instruction, of whatever code
+-- what is removed after an instruction, in whatever code
 abbrev pub BehindNext : TacFrame → Next → List ℕ → Type 0
 BehindNext frame next removes = (code : Code) (is : IsNextInFrame code frame next) → removes ≡ removes_behind frame is.instr.op
 
@@ -56,7 +56,7 @@ pub made_next : (w : World) (g : ℕ) (next : Next) (at : IsNextInWorld w g next
 made_next w g next at frame structs o is same made =
     (λ i. making_by (sym same i) (sym (the_frame w g next at frame is) i) (operation_of next.op)) ∙ sym made
 
--- ---- where nothing is done
+-- ---- nothing is done
 
 -- for lack of memory or of room
 pub turn_halted : (why : Halt) (w v : World) (s : RegionState) (limits : Limits) (g : ℕ) → Ready w s g
@@ -65,7 +65,7 @@ turn_halted halt.NoMemory w v s limits g ready same = takes_nothing w v s limits
 turn_halted (halt.NoRoom why) w v s limits g ready stops =
     takes_short w v limits g why s ready.between.running (stops s ready)
 
--- ---- where an object is made
+-- ---- an object is made
 
 module _ (w v : World) (limits : Limits) (g : ℕ) (next : Next) (making : Making)
     (has : (s : RegionState) → Ready w s g → ObjectHasRoom w v s g next making) where

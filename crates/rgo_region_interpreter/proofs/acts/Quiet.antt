@@ -1,4 +1,5 @@
--- Turns of an instruction that changes no memory and prints nothing, as a call, a start and a return.
+-- Turns of an instruction that changes no memory and prints nothing: a call, a start or a return. For these the step over the memory
+-- that is kept needs no argument about what is touched.
 use Rattle.std.proofs.Common.{◌≡◌, ℕ, List, [], ◌∷◌, ◌++◌, Option, Some, None, refl, sym, ap, ◌∙◌, subst}
 use Rattle.std.proofs.lemmas.List.{append-nil}
 use Rattle.rgo_memory.specs.declared.values.Value.{Value}

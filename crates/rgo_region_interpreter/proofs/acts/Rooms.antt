@@ -1,4 +1,5 @@
--- There is room for the object that a goroutine makes next, or there is none, by what the code keeps.
+-- There is room for the object that a goroutine makes next, or there is none, by what the code keeps. The loop takes one page at a
+-- time, and each page is a step of the machine with room; its invariant counts how many are still needed.
 use Rattle.std.proofs.Common.{◌≡◌, ℕ, ◌+◌, ◌-◌, ◌≤◌, ◌<◌, Bool, true, false, List, [], Option, Some, None, IsSome}
 use Rattle.std.proofs.Common.{refl, sym, ap, ◌∙◌, subst, nat_le, nat_lt, if◌then◌else◌, arith, slice_get, slice_set, rules}
 use Rattle.std.proofs.lemmas.Bool.Decides.{nat_tests}
@@ -96,7 +97,7 @@ shown_class w s g ready (Name k) =
     ap (λ o. named_region o k) c.1
     ∙ region_shown c.0 ready.works.holder k (shown_holder w s g [] ready.works c.0 c.1)
 
--- after some pages were taken, goroutine g is ready, and so many are still wanted in a region for its next object
+-- after some pages were taken, goroutine g is ready, and this many are still needed in a region for its next object
 pub record Roomier (w v : World) (s : RegionState) (g : ℕ) (next : Next) (making : Making) (region : Region) (left : ℕ)
     : Type 0 where
   pub attended : Attended w v s g []
@@ -195,7 +196,7 @@ module _ (w : World) (s : RegionState) (g : ℕ) (next : Next) (making : Making)
         ap (λ q. pages_wanted_for w g q making.extent) its
         ∙ (λ j. pages_wanted w.sizes.page_words ((ap reserved_held kept.1 ∙ shows.reserved) j) (fill_is j) making.extent)
 
-    -- all pages are there
+    -- all pages are taken
     pub roomy_now : pages_wanted_for w g region making.extent ≡ 0 → IsRoomy w s g next making
     roomy_now none = record {
       ready = ready;
@@ -425,7 +426,7 @@ module _ (w u : World) (g : ℕ) (next : Next) (making : Making) (region : Regio
         roomy = roomy_now u x.attended.state g next making x.ready x.makes region x.found small_now (x.wanted ∙ none);
       }
 
--- the next one of so many
+-- the next one of this many
 pub roomier_step : (w u v : World) (g : ℕ) (next : Next) (making : Making) (region : Region) (all taken : ℕ)
     → AllRoomier w u g next making region (all - taken)
     → extents.extent_is_too_large w.sizes.page_words making.extent ≡ false → SameRun w u → taken < all

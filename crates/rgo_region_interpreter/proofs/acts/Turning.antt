@@ -1,5 +1,6 @@
--- A turn of an instruction that makes no object, after which the world changes what it keeps of the regions: what the
--- region machine comes to, and how the turn is one of the world.
+-- A turn of an instruction that makes no object, after which the world changes what it keeps of the regions: what the region machine
+-- comes to, and how the turn is one of the world. Between the step and the change the world shows no state; that is why the two are
+-- proved as one.
 use Rattle.std.proofs.Common.{◌≡◌, ℕ, ◌≤◌, true, [], ◌++◌, length, Some, None, refl, sym, ap, ◌∙◌, subst}
 use Rattle.std.proofs.Common.{slice_get, slice_set}
 use Rattle.rgo_memory.specs.Channels.{SameChannels}
@@ -119,7 +120,7 @@ module _ (w v : World) (s : RegionState) (limits : Limits) (g : ℕ) (next : Nex
     works_after = works_by w v s limits g turned ready i takes one did ready.works.holder.fills ready.works.holder.reserved []
         (fitting w v s limits g turned ready i none takes one did) tt p over_w table_at running
 
-    -- where only goroutine g has something else
+    -- if only goroutine g has something else
     module _ (started : did.act.started ≡ []) (k : spec.Holder)
         (k_is : after_it.holders ≡ slice_set s.holders g k) (c d : Holder)
         (there : slice_get w.holders.items g ≡ Some c) (d_is : p.holders.items ≡ slice_set w.holders.items g d)

@@ -1,4 +1,5 @@
--- Turns of an instruction that is no call, no start and no return: where it makes no object, and where it makes one.
+-- Turns of an instruction that neither calls, starts nor returns: without an object, and with one. With one, the owner of the object is
+-- recorded after the step, so memory may run out in between.
 use Rattle.std.proofs.Common.{◌≡◌, ◌⊎◌, inl, inr, ℕ, ◌+◌, ◌-◌, ◌≤◌, ◌<◌, Bool, true, false, if◌then◌else◌, List, [], ◌∷◌, ◌++◌, map}
 use Rattle.std.proofs.Common.{length, Option, Some, None, refl, sym, ap, ◌∙◌, subst, nat_le, nat_lt, arith, true≢false}
 use Rattle.std.proofs.Common.{slice_get, slice_set, unwrap_or}
@@ -95,7 +96,7 @@ module _ (w v : World) (s : RegionState) (limits : Limits) (g : ℕ) (turned : T
   pub goes_on : goes_by turned.stop turned.steps ≡ true → v.state.ended ≡ None
   goes_on e = goes_running w.code.now limits v.state g 1 turned.steps turned.stop e takes.turns.over
 
--- ---- where no object is made
+-- ---- no object is made
 
 module _ (w v : World) (s : RegionState) (limits : Limits) (g : ℕ) {frame : TacFrame} {callers : List TacFrame}
     {instr : CodeInstr} (turned : Turned) (ready : Ready w s g)
@@ -231,7 +232,7 @@ module _ (w v : World) (s : RegionState) (limits : Limits) (g : ℕ) (next : Nex
   only_goes kind u removes goes is settles = plain_goes w v s limits g turned ready (before w s g next ready makes.at)
       (making_none w g next makes) takes (simple_next w g next makes.at kind) u removes goes is settles
 
--- ---- where one is made
+-- ---- an object is made
 
 fits_used : (page_words n : ℕ) (o : Option ℕ) → fits_in_page page_words o n ≡ true
     → (used : ℕ) × (o ≡ Some used) × (used + n ≤ page_words)
@@ -424,7 +425,7 @@ module _ (w v : World) (s : RegionState) (limits : Limits) (g : ℕ) (next : Nex
           let e = stays_ended w.code.now limits v.state g 1 turned.steps turned.stop one stays takes.turns.over in
           absurd (some_none (sym e.1 ∙ still one))
 
-  -- memory ran out where the object was to be placed
+  -- memory ran out when the object was to be placed
   pub making_fails : (p : World) → goes_by turned.stop turned.steps ≡ true → SameRun v p
       → TakesStep w p limits s g 1 (record { steps = turned.steps; stop = stop.NoMemory })
   unfolding t y

@@ -1,4 +1,5 @@
--- The world after the start of a run shows the state in which a run of the region machine begins.
+-- The world after the start of a run shows the state in which a run of the region machine begins: the base of every claim about a
+-- recorded run.
 use Rattle.std.proofs.Common.{◌≡◌, ℕ, zero, suc, ◌≤◌, List, [], ◌∷◌, map, length, Some, refl, sym, ap, ◌∙◌, subst}
 use Rattle.std.proofs.Common.{arith, drop, slice_get}
 use Rattle.rgo_code.specs.Code.{Code}

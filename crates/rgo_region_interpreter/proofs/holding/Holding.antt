@@ -1,4 +1,5 @@
--- What the code keeps of a goroutine shows the machine's holder at its start, and after calls and returns.
+-- What the code keeps of a goroutine shows the machine's holder at its start, and after calls and returns. Protections are counted over
+-- all frames in the code and listed by frame in the machine; a return keeps them equal because the frame that goes protects nothing.
 use Rattle.std.proofs.Common.{◌≡◌, ℕ, ◌+◌, ◌≤◌, Bool, true, false, ◌||◌, List, [], ◌∷◌, map}
 use Rattle.std.proofs.Common.{None, refl, sym, ap, ◌∙◌, subst, nat_eq, if◌then◌else◌, arith, true≢false}
 use Rattle.std.proofs.lemmas.Bool.{eqb-false}
@@ -66,7 +67,7 @@ pub with_top_same : (es : List RegionEnvironment) → with_top es (top_names es)
 with_top_same [] = refl
 with_top_same (e ∷ es) = refl
 
--- what a name stands for, without these
+-- what a name denotes, without these
 pub bound_without_all : (names : Bindings) (given : List ℕ) (k : ℕ)
     → bound (without_all names given) k ≡ (if list_any (nat_eq k) given then None else bound names k)
 bound_without_all names [] k = refl

@@ -34,7 +34,7 @@ last_set f xs n x y last is first others e =
     let t = take-set xs n y in
     (cc, cc)
 
--- one was put where none was
+-- one was put at a free place
 pub one_frame : {X Y : Type 0} (f : X → Y) (xs ys : List X) (y : X) → xs ≡ ys ++ y ∷ [] → ys ≡ []
     → reverse (map f xs) ≡ f y ∷ []
 one_frame f xs ys y e none = ap (λ l. reverse (map f l)) (e ∙ ap (λ l. l ++ y ∷ []) none)

@@ -1,4 +1,5 @@
--- One goroutine has something else of the regions, and the others have what they had.
+-- One goroutine has something else of the regions, and the others have what they had: the frame of all proofs about a step with a
+-- region.
 use Rattle.std.proofs.Common.{◌≡◌, ℕ, ◌≤◌, ◌<◌, false, drop, length, None, Some, sym, ap, ◌∙◌, subst, nat_eq, arith}
 use Rattle.std.proofs.Common.{slice_get, slice_set}
 use Rattle.rgo_code.specs.Code.{Code}
@@ -81,7 +82,7 @@ module _ {w v : World} {s t : RegionState} {g : ℕ} {c d : Holder} {h k : spec.
           (fills r l)))
           (λ n. old.unmade j z y (other_in_v j z n e) (other_in_t j y n f) r (omega (arith, more, l)))
 
-  -- the others owe what they owed, where they have the same frames
+  -- the others owe what they owed, if they have the same frames
   pub others_owe : (code : Code) → ((j : ℕ) → nat_eq g j ≡ false → frames_of t.plain j ≡ frames_of s.plain j)
       → ((j : ℕ) (z : Holder) (y : spec.Holder) → (j ≡ g → ⊥) → slice_get w.holders.items j ≡ Some z
       → slice_get s.holders j ≡ Some y → OwesNext code s j z y)

@@ -1,4 +1,5 @@
--- The start of a run is orderly, and each step of the region machine keeps that.
+-- The start of a run is orderly, and each step of the region machine keeps that. It is a law on the machine alone, proved with the
+-- invariant of rgo_sound at hand; most steps change one holder, so the work is in duties, and in what an instruction comes to owe.
 use Rattle.std.proofs.Common.{◌≡◌, ℕ, zero, suc, ◌+◌, ◌≤◌, ◌<◌, false, List, [], ◌∷◌, ◌++◌, map, length}
 use Rattle.std.proofs.Common.{Option, Some, None, refl, sym, ap, ◌∙◌, subst, nat_eq, arith}
 use Rattle.std.proofs.Common.{◌⊎◌, inl, inr, slice_get, slice_set, length-append, append_assoc}
@@ -755,7 +756,7 @@ module _ (code : Code) (s : RegionState) (old : Orderly code s) where
                   ∙ get_set_other s.plain.goroutines r j (x.go_on x.v) n') in
                   subst (λ f. OrderlyHolder code f y) (sym same) (old.holders (mark m) j y q)
 
--- a meeting goes on from where the run had not ended
+-- a meeting continues from a state at which the run had not ended
 meets_from : (code : Code) (page_words : ℕ) (s : RegionState) (r u : ℕ)
     → Yields (λ (t : RegionState). t.mark ≡ None → s.mark ≡ None) (region_step code page_words s (Instruct (Meet r u)))
 meets_from code page_words s r u = yields_then (instruct code page_words s (Meet r u)) _

@@ -1,4 +1,5 @@
--- What the code keeps of a goroutine shows the machine's holder after each step with a region, if it showed it before.
+-- What the code keeps of a goroutine shows the machine's holder after each step with a region, if it showed it before: one lemma for
+-- each kind of step.
 use Rattle.std.proofs.Common.{◌≡◌, ℕ, zero, suc, ◌+◌, ◌≤◌, Bool, true, false, ◌||◌, List, [], ◌∷◌, map, Option, Some}
 use Rattle.std.proofs.Common.{None, refl, sym, ap, ◌∙◌, subst, nat_eq, nat_lt, if◌then◌else◌, arith, true≢false}
 use Rattle.std.specs.List.{list_any}
@@ -42,7 +43,7 @@ flip x y = go (nat_eq x y) refl
 
 -- ---- what it says
 
--- what a name stands for
+-- what a name denotes
 pub region_shown : (c : Holder) (h : spec.Holder) (k : ℕ) → HolderShows c h
     → region_in c k ≡ bound (top_names h.environments) k
 region_shown c h k shows = go (frame_names_of c) h.environments shows.names

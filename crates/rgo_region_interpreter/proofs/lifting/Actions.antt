@@ -1,5 +1,5 @@
--- What actions do over what the code keeps of the memory is what they do over the whole memory, where they touch no
--- object of a region that is gone.
+-- What actions do over what the code keeps of the memory is what they do over the whole memory, if they touch no object of a removed
+-- region. An action looks at no object but the one that it touches, so the missing contents of the others cannot matter.
 use Rattle.std.proofs.Common.{◌≡◌, ℕ, ◌≤◌, false, List, [], ◌∷◌, length, Option, Some, None, refl, sym, ap, ◌∙◌}
 use Rattle.std.proofs.Common.{subst, arith, option_map, slice_get, replicate}
 use Rattle.std.specs.Prelude.{Result, Ok, Err, pos, negsuc}

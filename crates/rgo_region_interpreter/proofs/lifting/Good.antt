@@ -1,5 +1,6 @@
--- In a run of checked code, whatever an instruction touches is kept: a step over what the code keeps of a state is the
--- step of the state, and what it leads to shows the state to which the region machine's step leads.
+-- In a run of checked code, whatever an instruction touches is kept: a step over what the code keeps of a state is the step of the
+-- state, and what it leads to shows the state to which the region machine's step leads. Here region safety is used in place of a test
+-- at run time.
 use Rattle.std.proofs.Common.{◌≡◌, ℕ, List, [], ◌++◌, Option, Some, None, refl, sym, ap, ◌∙◌, subst, arith}
 use Rattle.std.proofs.Common.{append_assoc, slice_get}
 use Rattle.rgo_machine.specs.declared.picks.End.{End}
@@ -135,7 +136,7 @@ module _ (code : Code) (s : RegionState) (checked : IsChecked code) (all : AllGo
             ended = sym x.2.keeps.ended i;
           }
 
-      -- where the region machine comes by it, with the owners of new objects
+      -- the state to which the region machine comes by it, with the owners of new objects
       module _ (pick : Pick) (v : TacState) (x : StepShows code s state pick v) (t : RegionState)
           (plain : t.plain ≡ plain_after s x.next) (mark : t.mark ≡ mark_with_end s.mark x.next.ended) where
         ended_there : end_in t.mark ≡ x.next.ended

@@ -1,4 +1,5 @@
--- What the code keeps of the memory: objects of regions that are not gone are read and written in it as in the whole.
+-- What the code keeps of the memory: objects of regions that are not removed are read and written in it as in the whole memory. Both
+-- heaps have the same length, so a new object has the same number in both.
 use Rattle.std.proofs.Common.{◌≡◌, ℕ, zero, suc, ◌≤◌, Bool, true, false, true≢false, List, [], ◌∷◌, ◌++◌, length}
 use Rattle.std.proofs.Common.{Some, refl, sym, ap, ◌∙◌, arith, nat_eq, slice_get, slice_set, length-append}
 use Rattle.std.proofs.lemmas.Option.{slice_get_within}

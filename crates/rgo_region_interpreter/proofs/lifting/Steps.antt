@@ -1,5 +1,6 @@
--- A step of the three-address machine over what the code keeps of the memory is its step over the whole memory, where
--- it touches no object of a region that is gone.
+-- A step of the three-address machine over what the code keeps of the memory is its step over the whole memory, if it touches no object
+-- of a removed region. It goes both ways: neither has a step that the other lacks, so a wait or a deadlock of the code is one of the
+-- machine.
 use Rattle.std.proofs.Common.{◌≡◌, ℕ, ◌≤◌, Bool, true, false, List, [], ◌∷◌, ◌++◌, length, Option, Some, None, refl}
 use Rattle.std.proofs.Common.{sym, ap, ◌∙◌, subst, nat_eq, nat_lt, arith, if◌then◌else◌, slice_get, slice_set}
 use Rattle.std.proofs.Common.{option_map, option_and_then}
@@ -114,7 +115,7 @@ module _ (regions : List RegionInfo) (owners : List Region) (whole kept : TacSta
     ended = k.ended;
   }
 
--- ---- where what is touched is live
+-- ---- if what is touched is live
 
 pub live_not_gone : (regions : List RegionInfo) (r : Region) → is_live regions r ≡ true → is_gone regions r ≡ false
 live_not_gone regions GlobalRegion live = refl

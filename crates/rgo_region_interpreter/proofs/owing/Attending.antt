@@ -1,5 +1,6 @@
--- A step with a region that a goroutine owes: the region machine has it, and where the code has done it, the world shows
--- the state after it.
+-- A step with a region that a goroutine owes: the region machine has it, and once the code has done it, the world shows the state after
+-- it. That the machine has it is `duties_go` of rgo_sound. The hard case is the end of a stake, where the table, the memory and the
+-- holder change together.
 use Rattle.std.proofs.Common.{◌≡◌, ℕ, suc, ◌+◌, ◌≤◌, ◌<◌, Bool, true, false, List, [], ◌∷◌, ◌++◌, map, length}
 use Rattle.std.proofs.Common.{Option, Some, None, refl, sym, ap, ◌∙◌, subst, nat_eq, nat_lt, if◌then◌else◌, ◌||◌, arith}
 use Rattle.std.proofs.Common.{◌-◌, true≢false, cond, is_some, get_or, slice_get, slice_set, option_and_then, option_map, length-append}
@@ -239,7 +240,7 @@ module _ (w v : World) (s : RegionState) (g : ℕ) (d : Duty) (ds : List Duty) (
       roomy = ap (λ b. if b then region_step w.code.now w.sizes.page_words s (Attend g) else None)
           (ap (has_room_to_attend w.sizes s) works.is_holder ∙ ap (has_room_for_first w.sizes s) works.owed ∙ room)
 
-  -- the same where regions, the table and the memory stay
+  -- the same if regions, the table and the memory stay
   pub attended_same : Goes w.code.now w.sizes.page_words s g works.holder d ds → has_room_for w.sizes s d ≡ true
       → (k : spec.Holder) → duty_done s g (record works.holder { duties = ds }) d ≡ Some (attended s g k) → k.duties ≡ ds
       → v.table ≡ w.table → v.state.memory ≡ w.state.memory → HolderShows c' k → SameFills c c'
@@ -436,7 +437,7 @@ attended_to w u v s g ds a works same kept = record {
 
 -- ---- memory
 
--- what is kept of the objects, where no more of their regions are removed
+-- what is kept of the objects, if no more of their regions are removed
 kept_same : (regions others : List RegionInfo) (owners : List Region) (heap : List Object)
     → ((o : ℕ) (q : Region) → slice_get owners o ≡ Some q → is_gone others q ≡ is_gone regions q)
     → kept_heap regions owners heap ≡ kept_heap others owners heap
@@ -562,7 +563,7 @@ create_attends w v g name c c' there moved memory holders binds creates fewer re
 
 -- ---- Protect and Unprotect
 
--- what a name of a goroutine that works stands for
+-- what a name of a goroutine that works denotes
 works_bound : (w : World) (s : RegionState) (g : ℕ) (duties : List Duty) (works : Works w s g duties) (c : Holder)
     (name : ℕ) (q : Region) → slice_get w.holders.items g ≡ Some c → region_in c name ≡ Some q
     → bound (top_names works.holder.environments) name ≡ Some q
@@ -606,7 +607,7 @@ protect_attends w v g name c c' q there moved table memory holders names protect
         by true e = refl
         by false e = cc
 
--- a step with a name that stands for nothing is none of a goroutine that works
+-- a goroutine that works owes no step with a name that denotes nothing, so the early return for it is never taken
 pub no_name : (w : World) (s : RegionState) (g : ℕ) (d : Duty) (rest : List Duty) (works : Works w s g (d ∷ rest))
     (c : Holder) (name : ℕ) (f : Region → Option RegionState) → slice_get w.holders.items g ≡ Some c
     → duty_done s g (record works.holder { duties = rest }) d
@@ -813,7 +814,7 @@ base_shown w s g duties works =
     let x = there_is w s g duties works in
     sym (shown_holder w s g duties works x.0 x.1).base ∙ ap (λ o. map Numbered (base_in o)) (sym x.1)
 
--- so much of the base has ended
+-- this much of the base has ended
 pub record EndsSo (w v : World) (g : ℕ) : Type 0 where
   pub ends : (s : RegionState) (h : spec.Holder) → slice_get s.holders g ≡ Some h → Works w s g (map EndBase h.base)
       → Attended w v s g (map EndBase (map Numbered (base_regions_of v g)))
@@ -990,7 +991,7 @@ key_added x r q o = go (nat_eq r q) refl
     go true e = sym (ap (λ z. z || is_some o) (turned true e))
     go false e = sym (ap (λ z. z || is_some o) (turned false e))
 
--- what the name stands for is Global
+-- the name denotes Global
 pub share_global : (w : World) (g name : ℕ) (c : Holder) (has : ℕ → Bool) → slice_get w.holders.items g ≡ Some c
     → region_in c name ≡ Some GlobalRegion → SharesOne w w g name has has
 share_global w g name c has there names s rest works pends =
@@ -1014,7 +1015,7 @@ pub share_more : (w v : World) (g name r : ℕ) (c : Holder) (has also : ℕ →
 share_more w v g name r c has also there names e moved holders memory table adds s rest works pends =
     shares_more w s g name rest works c there has pends r names v also moved holders memory table e adds
 
--- a name that stands for nothing
+-- a name that denotes nothing
 pub share_nothing : (w : World) (g name : ℕ) (c : Holder) (has : ℕ → Bool) → slice_get w.holders.items g ≡ Some c
     → region_in c name ≡ None → SharesOne w w g name has has
 share_nothing w g name c has there names s rest works pends =

@@ -1,4 +1,5 @@
--- A goroutine takes a page: the step of the region machine, and what the world shows after it.
+-- A goroutine takes a page: the step of the region machine, and what the world shows after it. The test for room is on counts of the
+-- table, which are those of the machine's state.
 use Rattle.std.proofs.Common.{◌≡◌, ℕ, ◌+◌, ◌≤◌, ◌<◌, Bool, true, false, List, [], ◌∷◌, length, map, Option, Some, None}
 use Rattle.std.proofs.Common.{◌-◌, refl, sym, ap, ◌∙◌, subst, drop, nat_eq, nat_lt, if◌then◌else◌, arith, true≢false}
 use Rattle.std.proofs.Common.{slice_get, slice_set, option_map, option_and_then}
@@ -35,7 +36,7 @@ use Rattle.rgo_region_interpreter.proofs.owing.Preparing.{between_with, others_b
 
 -- ---- what is used of the own pages
 
--- what is used in each region, once so much is used in one
+-- what is used in each region, after the words used in one have changed
 pub fill_with_at : (fills : List (Region × ℕ)) (r : Region) (n : ℕ) (q : Region)
     → fill_of (with_fill fills r n) q ≡ (if same_region r q then Some n else fill_of fills q)
 fill_with_at [] r n q = refl
@@ -65,7 +66,7 @@ fill_with_at (f ∷ fs) r n q = go (same_region f.0 r) refl (fill_with_at fs r n
         ap (λ o. if same_region f.0 q then Some f.1 else o) h
         ∙ apart e (same_region f.0 q) refl (same_region r q) refl
 
--- what the code keeps of a goroutine, after so much is used in one region
+-- what the code keeps of a goroutine, after the words used in one region have changed
 pub fill_shown : (c d : Holder) (h : spec.Holder) (region : Region) (used : ℕ) (ds : List Duty) → HolderShows c h
     → Fills c d region used → HolderShows d (record h { fills = with_fill h.fills region used; duties = ds })
 fill_shown c d h region used ds shows fills = record {
@@ -87,7 +88,7 @@ pub fill_unmade : (c d : Holder) (h : spec.Holder) (region q : Region) (used : �
 fill_unmade c d h region q used fills e =
     fills.0 q ∙ ap (λ o. if same_region region q then Some used else o) e ∙ sym (fill_with_at h.fills region used q)
 
--- what the code keeps of it, after so many pages are reserved
+-- what the code keeps of it, after the number of reserved pages has changed
 pub reserve_shown : (c d : Holder) (h : spec.Holder) (n : ℕ) (ds : List Duty) → HolderShows c h → Reserves c d n
     → HolderShows d (record h { reserved = n; duties = ds })
 reserve_shown c d h n ds shows e = subst (λ z. HolderShows z (record h { reserved = n; duties = ds })) (sym e) (record {

@@ -1,5 +1,6 @@
--- What a goroutine owes before its next instruction is done: the creations that are left, and then the protections of a
--- call, or the stakes for a start.
+-- What a goroutine owes before its next instruction is done: the creations that are left, and then the protections of a call, or the
+-- stakes for a start. The count of what is done says where in the machine's list the goroutine is (`OwesNext`), so each loop begins in
+-- the middle of its list.
 use Rattle.std.proofs.Common.{◌≡◌, ℕ, ◌+◌, ◌-◌, ◌≤◌, ◌<◌, max, Bool, true, false, List, [], ◌∷◌, ◌++◌, map, length}
 use Rattle.std.proofs.Common.{Option, Some, refl, sym, ap, ◌∙◌, subst, nat_eq, nat_le, arith, drop, get_or, slice_get}
 use Rattle.std.proofs.Common.{length-append, append-nil, true≢false}
@@ -77,7 +78,7 @@ same_run w = record { code = refl; sizes = refl; print = refl }
 
 -- ---- steps of one kind
 
--- those of so many names are done
+-- those of this many names are done
 pub record DoesSo (make : ℕ → Duty) (w v : World) (g : ℕ) (names : List ℕ) (i : ℕ) : Type 0 where
   pub does : (rest : List Duty) (s : RegionState) → Works w s g (map make names ++ rest)
       → Attended w v s g (drop i (map make names) ++ rest)
@@ -124,7 +125,7 @@ does_next w v u x s g d ds i j a step done works counts same kept e =
       counted = c ∙ ap (λ n. n + 1) (done ∙ a.counted) ∙ sym e;
     }
 
--- the same where a share is done, and the regions that are pending are followed
+-- the same for a share, which also keeps the set of shared regions equal to the pending ones
 pub record SharesSo (w v : World) (s : RegionState) (g : ℕ) (ds : List Duty) (has : ℕ → Bool) (i : ℕ) : Type 0 where
   pub shares : SharesTo w v s g ds has
   pub counted : done_of v g ≡ i
@@ -155,7 +156,7 @@ shares_next w v u x s g name ds has also i a step done works counts same kept =
 
 -- ---- creations
 
--- so many are done
+-- this many are done
 pub record CreatesSo (w v : World) (g : ℕ) (names : List ℕ) (i : ℕ) : Type 0 where
   pub does : (s : RegionState) (rest : List Duty) → Works w s g (drop (done_of w g) (map Create names) ++ rest)
       → DoesAll w v s g (drop i (map Create names) ++ rest) i
@@ -255,7 +256,7 @@ creates_halts (halt.NoRoom why) w v u g names i name so l e run same h =
 
 -- ---- protections
 
--- so many are done
+-- this many are done
 pub record ProtectsSo (w v : World) (g created : ℕ) (names : List ℕ) (i : ℕ) : Type 0 where
   pub does : (s : RegionState) → created ≤ done_of w g → Works w s g (drop (done_of w g - created) (map Protect names))
       → DoesAll w v s g (drop i (map Protect names)) (created + i)
@@ -315,7 +316,7 @@ protects_all w v g created names i so past within s more works =
 
 -- ---- shares
 
--- those of so many classes are done
+-- those of this many classes are done
 pub record SharedSo (w v : World) (g : ℕ) (passes left : List Class) (has : ℕ → Bool) : Type 0 where
   pub done : ℕ
   pub so : (s : RegionState) (works : Works w s g (map Share (regions_named passes))) → works.holder.pending ≡ []
@@ -415,7 +416,7 @@ works_between w s g c h b there is = record {
 pub others_between : (w : World) (s : RegionState) (g : ℕ) → Between w s → OthersOwe w s g
 others_between w s g b j x y n e f = b.owes j x y e f
 
--- the others owe what they owed, where they have what they had
+-- the others owe what they owed, if they have what they had
 pub others_still : (w v : World) (s t : RegionState) (g : ℕ) → KeepsOthers w v g → SameOthers s t g
     → v.code.now ≡ w.code.now → t.plain ≡ s.plain → OthersOwe w s g → OthersOwe v t g
 others_still w v s t g kept same code plain owe j x y n e f =

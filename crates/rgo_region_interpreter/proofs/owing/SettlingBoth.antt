@@ -1,4 +1,5 @@
--- What two goroutines owe after an instruction of both, or after one has started the other, is done.
+-- What two goroutines owe after an instruction of both, or after one has started the other, is done: first by one and then by the
+-- other. In between the second one still owes what it owed, since a step with a region leaves the others alone.
 use Rattle.std.proofs.Common.{◌≡◌, ℕ, ◌≤◌, ◌<◌, false, List, ◌++◌, map, drop, length, Some}
 use Rattle.std.proofs.Common.{sym, ap, ◌∙◌, subst, arith, nat_eq, slice_get}
 use Rattle.rgo_code.specs.Code.{Code}
@@ -17,7 +18,7 @@ use Rattle.rgo_region_interpreter.proofs.holding.OneHolder.{the_same}
 use Rattle.rgo_region_interpreter.proofs.stepping.Taking.{leads_on, settled}
 use Rattle.rgo_sound.proofs.Tests.{eq_of, split}
 
--- a goroutine owes what it owed, where its frames are the same
+-- a goroutine owes what it owed, if its frames are the same
 pub owes_on : (code now : Code) (s t : RegionState) (k : ℕ) (c : Holder) (h : spec.Holder) → now ≡ code
     → frames_of t.plain k ≡ frames_of s.plain k → OwesNext code s k c h → OwesNext now t k c h
 owes_on code now s t k c h same frames was = record {
@@ -27,7 +28,7 @@ owes_on code now s t k c h same frames was = record {
       (subst (λ (n : ℕ). n < c.done) (λ i. length (next_creates (same i) (frames i))) l);
 }
 
--- it owes all that comes before its next instruction, where none of that is done
+-- it owes all that comes before its next instruction, if none of that is done
 pub owes_all : (code : Code) (t : RegionState) (k : ℕ) (c : Holder) (h : spec.Holder) → c.done ≡ 0
     → h.duties ≡ next_duties code (frames_of t.plain k) → OwesNext code t k c h
 owes_all code t k c h none owed = record {

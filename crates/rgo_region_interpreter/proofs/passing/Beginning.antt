@@ -1,4 +1,5 @@
--- What a new goroutine was given, by the names that the world keeps of the one that starts it.
+-- What a new goroutine was passed, by the names that the world keeps of the one that starts it. The code has lists of formals that were
+-- computed when the run began; `Prepared` says that they are the code's.
 use Rattle.std.proofs.Common.{◌≡◌, ℕ, List, [], ◌∷◌, ◌++◌, map, Option, Some, None, refl, sym, ap, ◌∙◌, subst}
 use Rattle.std.proofs.Common.{slice_get}
 use Rattle.std.specs.Option.{option_map}

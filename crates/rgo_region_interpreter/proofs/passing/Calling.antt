@@ -1,4 +1,5 @@
--- A call: what its goroutine has of the regions then, and how the turn is one of the world.
+-- A call: what its goroutine has of the regions then, and how the turn is one of the world. The loops over the lists of a call are in
+-- Lists.antt; here their result is compared with the machine's.
 use Rattle.std.proofs.Common.{◌≡◌, ℕ, ◌≤◌, Bool, true, false, ◌||◌, List, [], ◌∷◌, ◌++◌, map, length, Option}
 use Rattle.std.proofs.Common.{Some, None, refl, sym, ap, ◌∙◌, subst, nat_eq, if◌then◌else◌, arith, slice_get, slice_set}
 use Rattle.std.specs.List.{list_any}
@@ -53,7 +54,7 @@ none_both : (b : Bool) (o : Option Region) → o ≡ None → (if b then None el
 none_both true o e = refl
 none_both false o e = e
 
--- what names stand for without those that are left to the callee
+-- what names denote without those that are given to the callee
 except_all : (ks : List ℕ) (bs : Bindings) (k : ℕ)
     → bound (without_all bs ks) k ≡ (if list_any (nat_eq k) ks then None else bound bs k)
 except_all [] bs k = refl
@@ -199,7 +200,7 @@ module _ (w v : World) (s : RegionState) (limits : Limits) (g : ℕ) (next : Nex
       (call_alone s.plain.memory makes.at.frame makes.at.callers callee (operand_values makes.at.frame op.from)
       (slice_get (erased w.code.now).functions callee))
 
-  -- memory ran out where the names of the callee were to be kept
+  -- memory ran out for the names of the callee
   pub calling_fails : (u : World) → SameRun v u
       → TakesStep w u limits s g 1 (record { steps = turned.steps; stop = stop.NoMemory })
   calling_fails u same = turn_fails w v s limits g next turned ready makes takes goes u same

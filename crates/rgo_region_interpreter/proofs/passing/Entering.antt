@@ -55,7 +55,7 @@ protects_rise w next prepared some =
 
 -- ---- what is passed
 
--- names stand for the regions that are passed, by the lists that the code has
+-- names denote the regions that are passed, by the lists that the code has
 pub passed_stand : (c : Holder) (read names : FrameNames) (formals parameters passes classes : List Class)
     → formals ≡ parameters → passes ≡ classes → read ≡ newest_frame_names (frame_names_of c)
     → ((bindings : Bindings) → NamesStandFor read bindings

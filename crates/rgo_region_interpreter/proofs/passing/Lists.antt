@@ -1,4 +1,5 @@
--- What a call passes, as the code goes over its lists from the front.
+-- What a call passes, as the code goes over its lists: from the front, where the machine recurs to the end first. For names this agrees
+-- because the first of two equal ones counts; for regions that are passed twice the code goes from the back.
 use Rattle.std.proofs.Common.{◌≡◌, ◌⊎◌, ℕ, zero, suc, ◌+◌, ◌<◌, ◌≤◌, Bool, true, false, not, ◌&&◌, ◌||◌, List, [], ◌∷◌, ⊎_elim, length, drop, map}
 use Rattle.std.proofs.Common.{Option, Some, None, refl, sym, ap, ◌∙◌, arith, nat_eq, if◌then◌else◌}
 use Rattle.std.proofs.Common.{get_or, is_some, subst, ◌-◌}
@@ -58,7 +59,7 @@ passed_at fs rs i d e h h' =
     at_drop_more (λ x. passed x (drop i rs)) fs i d h
     ∙ at_drop_more (λ x. passed (get_or fs i d ∷ drop (i + 1) fs) x) rs i e h'
 
--- ---- the names that are left to a callee
+-- ---- the names that are given to a callee
 
 pub given_at : (lent : Class) (fs ps : List Class) (protects : List ℕ) (i : ℕ) (d e : Class)
     → i < length fs → i < length ps
@@ -70,7 +71,7 @@ given_at lent fs ps protects i d e h h' =
 
 -- ---- what was seen of the regions from the back
 
--- whether it was seen twice; None where it was not seen
+-- whether it was seen twice; None if it was not seen
 abbrev pub seen_in : ℕ → List (Option Region) → Option Bool
 seen_in r regions =
     if stands_in (Numbered r) regions then Some (list_any (same_region (Numbered r)) (twice regions)) else None
@@ -119,7 +120,7 @@ given_end lent (f ∷ fs) (p ∷ ps) protects (suc i) h =
 none_some : (r : Region) → None ≡ Some r → ⊥
 none_some r e = true≢false (sym (ap is_some e))
 
--- for a name that stands for what is passed for it, or for none if nothing is
+-- for a name that denotes what is passed for it, or nothing if nothing is
 pub first_none : (names : FrameNames) (name : ℕ) (passed : Option Region) (k : ℕ) → ((r : Region) → passed ≡ Some r → ⊥)
     → bound_in names k ≡ bound_first names name passed k
 first_none names name (Some region) k none = absurd (none region refl)
@@ -130,7 +131,7 @@ first_none names name None k none = go (nat_eq name k) (bound_in names k)
     go true None = refl
     go false None = refl
 
--- one that stood for a region stays
+-- one that denoted a region stays
 pub first_kept : (names : FrameNames) (name : ℕ) (passed : Option Region) (other : Region) (k : ℕ)
     → bound_in names name ≡ Some other → bound_in names k ≡ bound_first names name passed k
 first_kept names name passed other k some =
@@ -141,7 +142,7 @@ first_kept names name passed other k some =
     go true None f = absurd (none_some other (f refl))
     go false None f = refl
 
--- one that stood for none is given
+-- one that denoted none is bound
 pub first_new : (names after : FrameNames) (name : ℕ) (region : Region) (k : ℕ)
     → bound_in names name ≡ None → bound_in after k ≡ bound_with names name region k
     → bound_in after k ≡ bound_first names name (Some region) k
@@ -382,7 +383,7 @@ any_nowhere k (x ∷ xs) h =
     or_from (nat_eq k x) (list_any (nat_eq k) xs) (ne_eqb k x (λ e. h 0 (omega arith) (sym e)))
     (any_nowhere k xs (λ i l e. h (suc i) (omega (arith, l)) e))
 
--- ---- one step of the loop over what is left to a callee
+-- ---- one step of the loop over what is given to a callee
 
 left_same : (lent : Class) (formal pass : Class) (fs ps : List Class) (protects : List ℕ)
     → ((k : ℕ) → pass ≡ Name k → ⊥)
@@ -458,7 +459,7 @@ pub next_seen : (rs : List (Option Region)) (i : ℕ) → 0 < i → i ≤ length
 next_seen rs i more within =
     (omega (arith, more, within), ap (λ n. drop n rs) (omega (arith, more)))
 
--- a region that was not seen does not stand there
+-- a region that was not seen is not in the rest of the list
 pub stands_from_none : (q : ℕ) (rs : List (Option Region)) → None ≡ seen_in q rs → stands_in (Numbered q) rs ≡ false
 stands_from_none q rs e = go (stands_in (Numbered q) rs) _ e
   where
@@ -474,7 +475,7 @@ stands_from_some q rs b e = go (stands_in (Numbered q) rs) _ e
     go true t e = refl
     go false t e = absurd (true≢false (ap is_some e))
 
--- what was seen twice is still that once it stands at one place more
+-- what was seen twice stays so with one more place
 pub seen_still : (f : ℕ → Option Bool) (rs : List (Option Region)) (j q r : ℕ) → j < length rs
     → get_or rs j None ≡ Some (Numbered q) → Some true ≡ f q → ((k : ℕ) → f k ≡ seen_in k (drop (j + 1) rs))
     → f r ≡ seen_in r (drop j rs)

@@ -1,5 +1,6 @@
--- A return with its regions: the newest names of the goroutine go, in the code and in the machine. Then it owes what
--- stands behind its caller's call, or the end of its base where it has no caller.
+-- A return with its regions: the newest names of the goroutine go, in the code and in the machine. Then it owes what follows its
+-- caller's call, or the end of its base if it has no caller. The code reads the call before the return and the machine after it; the
+-- caller's frame is the same.
 use Rattle.std.proofs.Common.{◌≡◌, ℕ, ◌-◌, ◌≤◌, true, List, [], ◌∷◌, ◌++◌, map, length, Option, Some, None, MatchOption}
 use Rattle.std.proofs.Common.{refl, sym, ap, ◌∙◌, subst, arith, drop, get_or, option_map, reverse, slice_get, slice_set}
 use Rattle.std.proofs.lemmas.List.{append-nil}
@@ -72,7 +73,7 @@ pub return_makes_none : (w : World) (g : ℕ) (next : Next) (value : Option ℕ)
     → operation_of next.op ≡ tac.Return value → MakesNone w g next
 return_makes_none w g next value at is = record { at = at; is = ap (making_by w.code.now.structs at.frame) is }
 
--- what stands behind a call
+-- what follows a call
 behind_call : (op : CodeOp) → IsCall op
     → duties_behind op ≡ map Unprotect (protects_of op) ++ map Remove (removes_of op)
 behind_call (Do to action from removes) calls = absurd calls
@@ -83,7 +84,7 @@ behind_call (Jump j removes) calls = absurd calls
 behind_call (Branch v j removes k others) calls = absurd calls
 behind_call (Return value) calls = absurd calls
 
--- where a caller stands
+-- the place of a caller
 stands_there : (code : Code) (caller : TacFrame) (e : RegionEnvironment) (w : Waits code caller e)
     → current code caller ≡ Some w.instr
 stands_there code caller e w = ap (λ o. current_in o caller.next) w.is_fn ∙ w.is_instr
@@ -235,7 +236,7 @@ module _ (w v : World) (s : RegionState) (limits : Limits) (g : ℕ) (next : Nex
     code : p.code.now ≡ w.code.now
     code = ap (λ (z : World). z.code.now) (back.same ∙ λ j. record (takes.same j) { holders = p.holders })
 
-    -- what stands behind the caller's call is done
+    -- what follows the caller's call is done
     pub to_caller : (call : Next) (protects removes : List ℕ) (u : World) → IsCallBelow w callers call
         → protects ≡ protects_in (slice_get call.function.body call.at)
         → removes ≡ removes_in (slice_get call.function.body call.at)

@@ -1,4 +1,5 @@
--- The start of a goroutine: the world has one more, which has what was passed to it, and so has the region machine.
+-- The start of a goroutine: the world has one more, which has what was passed to it, and so has the region machine. Both goroutines owe
+-- something afterwards, so the world is between instructions only when both are done (`settle_both`).
 use Rattle.std.proofs.Common.{◌≡◌, ◌⊎◌, inl, inr, ℕ, zero, suc, ◌+◌, ◌≤◌, ◌<◌, true, false, List, [], ◌∷◌, ◌++◌, map}
 use Rattle.std.proofs.Common.{Option, Some, refl, sym, ap, ◌∙◌, subst, arith, slice_get, slice_set}
 use Rattle.std.proofs.Common.{length, length-append}
@@ -167,7 +168,7 @@ module _ (w v : World) (s : RegionState) (limits : Limits) (g : ℕ) (next : Nex
         (start_quiet s.plain.memory at.frame at.callers callee (operand_values at.frame starts.0)
         (slice_get (erased w.code.now).functions callee))
 
-    -- memory ran out before the new goroutine had what it was given
+    -- memory ran out before the new goroutine had what it was passed
     pub start_fails : (p : World) → SameRun v p
         → TakesStep w p limits s g 1 (record { steps = turned.steps; stop = stop.NoMemory })
     start_fails p same = turn_fails w v s limits g next turned ready makes takes goes p same
@@ -260,7 +261,7 @@ module _ (w v : World) (s : RegionState) (limits : Limits) (g : ℕ) (next : Nex
         ∙ length-append (slice_set s.holders g parent) (child ∷ []) ∙ ap (λ n. n + 1) (sym many))
         ∙ sym (frames_now (length w.holders.items))
 
-    -- ---- where the world has the new goroutine
+    -- ---- once the world has the new goroutine
 
     module _ (p : World)
         (begins : BeginsOther v p g (code_function v.code.now callee) (slice_get next.function.body next.at)) where

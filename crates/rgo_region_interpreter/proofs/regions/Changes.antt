@@ -1,4 +1,5 @@
--- What each change of a table shows: one more or one fewer stake, one more page, one more object.
+-- What each change of a table shows: one more or one fewer stake, one more page, one more object. Each changes one row; the counts
+-- change with it, and no count is ever recomputed.
 use Rattle.std.proofs.Common.{◌≡◌, ℕ, ◌+◌, ◌-◌, ◌≤◌, ◌<◌, true, List, [], ◌∷◌, ◌++◌, length, Some, None}
 use Rattle.std.proofs.Common.{refl, sym, ap, ◌∙◌, subst, arith, nat_eq, slice_get}
 use Rattle.std.specs.HashMap.{get}
@@ -80,7 +81,7 @@ module _ (t u : Table) (regions : List RegionInfo) (global_pages : ℕ) (owners 
         is_removed_now t u regions global_pages owners shows r x.0 x.1 one_fewer replaces x.2 after refl
         made removed taken (omega (arith, returned, is.pages))
 
-    -- the counts of what was removed do not pass those of what was made
+    -- the counts of what was removed do not exceed those of what was made, so the saturating sums of the code are exact
     pub removed_fits : row.stakes ≤ 1 → (t.removed + 1 ≤ t.made) × (t.returned + row.pages ≤ t.taken)
     removed_fits last =
         let x = live_info regions r live in

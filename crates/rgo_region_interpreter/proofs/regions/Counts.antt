@@ -1,4 +1,5 @@
--- A table shows the regions after each change of its row and its counts.
+-- A table shows the regions after each change of its row and its counts. The counts are sums over all regions, removed ones included,
+-- of which the table has no rows; so they have to be kept by what each change adds.
 use Rattle.std.proofs.Common.{◌≡◌, ℕ, zero, suc, ◌+◌, ◌≤◌, ◌<◌, ◌⊎◌, inl, inr, Bool, true, false, cond, List, [], ◌∷◌}
 use Rattle.std.proofs.Common.{◌++◌}
 use Rattle.std.proofs.Common.{length, Option, Some, None, refl, sym, ap, ◌∙◌, subst, arith, nat_eq, slice_get}
@@ -36,7 +37,7 @@ sum_with_info f (x ∷ xs) (suc r) info change at =
     let rest = sum_with_info f xs r info change at in
     omega (arith, sum_by-cons f x (with_info xs r change), sum_by-cons f x xs, rest)
 
--- 1 where the region was removed
+-- 1 if the region was removed
 abbrev pub removals_in : RegionInfo → ℕ
 removals_in info = cond (is_removed info) 1 0
 
@@ -85,7 +86,7 @@ pub replaced_twice : (t v u : Table) (r : ℕ) (first second : Option Row) → R
 replaced_twice t v u r first second before after =
     record { here = after.here; others = λ q apart. after.others q apart ∙ before.others q apart }
 
--- the rows are those of these regions and owners, where that of region r is and the others are as they were
+-- the rows are those of these regions and owners, if that of region r is and the others are as they were
 rows_after : (t u : Table) (r : ℕ) (row : Option Row) → Replaces t u r row
     → (regions qs : List RegionInfo) (owners os : List Region)
     → ((q : ℕ) → nat_eq r q ≡ false → row_of qs os q ≡ row_of regions owners q)

@@ -1,4 +1,5 @@
--- The memory that is kept, as regions and objects are made and regions are removed.
+-- The memory that is kept, as regions and objects are made and regions are removed. Only the end of a last stake takes something away,
+-- and it takes exactly the objects in the row of that region.
 use Rattle.std.proofs.Common.{◌≡◌, ℕ, zero, suc, ◌+◌, ◌-◌, ◌<◌, ◌⊎◌, inl, inr, Bool, true, false, List, [], ◌∷◌, ◌++◌}
 use Rattle.std.proofs.Common.{map}
 use Rattle.std.proofs.Common.{length, Option, Some, None, refl, sym, ap, ◌∙◌, subst, arith, nat_eq, slice_get}

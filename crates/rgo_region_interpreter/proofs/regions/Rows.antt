@@ -1,4 +1,5 @@
--- The rows of a table: of a region that is live, after a change of one region, and with one more region or object.
+-- The rows of a table: of a live region, after a change of one region, and with one more region or object. A row's list of objects is
+-- the machine's list of owners, filtered; a new object is at the end of both.
 use Rattle.std.proofs.Common.{◌≡◌, ℕ, zero, suc, ◌+◌, ◌<◌, Bool, true, false, List, [], ◌∷◌, ◌++◌, map}
 use Rattle.std.proofs.Common.{length, Option, Some, None, refl, sym, ap, ◌∙◌, arith, nat_eq, nat_lt, slice_get}
 use Rattle.std.proofs.Common.{if◌then◌else◌}
@@ -17,7 +18,7 @@ use Rattle.rgo_region_interpreter.specs.Tables.{owned, RowView, row_view, row_if
 pub is_some : {X : Type 0} (x y : X) → Some x ≡ Some y → x ≡ y
 is_some x y e = cc
 
--- a live region was made, and there is a stake in it
+-- a live region was made, and has a stake
 pub live_info : (regions : List RegionInfo) (r : ℕ) → is_live regions (Numbered r) ≡ true
     → (info : RegionInfo) × (slice_get regions r ≡ Some info) × (0 < info.stakes)
 live_info regions r live = go (slice_get regions r) refl live
@@ -74,7 +75,7 @@ owned_more r owner (o ∷ owners) n m same is =
     go true rest = ap (λ l. n ∷ l) rest
     go false rest = rest
 
--- where the first object has the next number
+-- if the first object has the next number
 pub owned_suc : (r : Region) (owners : List Region) (n : ℕ) → owned r owners (suc n) ≡ map suc (owned r owners n)
 owned_suc r [] n = refl
 owned_suc r (owner ∷ owners) n = go (same_region owner r) (owned_suc r owners (suc n))

@@ -1,5 +1,6 @@
--- A meeting at a channel without a buffer: where the two stand, that they owe nothing before it, the steps of the
--- region machine for it, and what the world shows of the state after it.
+-- A meeting at a channel without a buffer: three steps of the region machine (offer, meeting, acknowledgement) for one step of the
+-- three-address machine and one call of the code. That the two owe nothing before it has to be shown: a send and a receive create
+-- nothing, since the regions that they name are held.
 use Rattle.std.proofs.Common.{◌≡◌, ◌⊎◌, inl, inr, ℕ, zero, suc, ◌+◌, ◌≤◌, ◌<◌, Bool, true, false}
 use Rattle.std.proofs.Common.{◌&&◌, ◌||◌, List, [], ◌∷◌, ◌++◌, map, drop, length, Contains, Option, Some, None, refl}
 use Rattle.std.proofs.Common.{sym, ap, ◌∙◌, subst, nat_eq, if◌then◌else◌, arith, true≢false, slice_get, slice_set}
@@ -87,7 +88,7 @@ use Rattle.rgo_region_interpreter.proofs.stepping.Targets.{next_live}
 
 -- ---- the step of the three-address machine
 
--- two have met on the three-address machine, with where they stood
+-- two have met on the three-address machine, with the instructions at which they were
 pub record MetSo (code : Code) (p : TacState) (r u : ℕ) (next : TacState) : Type 0 where
   pub running : p.ended ≡ None
   pub apart : nat_eq r u ≡ false
@@ -530,15 +531,15 @@ module _ (code : Code) (sizes : Sizes) (s : RegionState) (r u : ℕ) (next : Tac
         ∙ get_set_other s.holders u j offering nu;
   }
 
--- ---- where there is no meeting
+-- ---- no meeting
 
--- a goroutine without a next instruction stands at no channel
+-- a goroutine without a next instruction is at no channel
 no_next : (w : World) (g : ℕ) (frame : TacFrame) (callers : List TacFrame) (instr : CodeInstr)
     → slice_get w.state.goroutines g ≡ Some (frame ∷ callers) → current w.code.now frame ≡ Some instr → GoroutineHasNoNext w g
     → ⊥
 no_next w g frame callers instr at cur none = none_some (sym (none frame (ap first_frame_of at)) ∙ cur)
 
--- so there is no meeting, where one of the two has none
+-- so there is no meeting if one of the two has none
 pub no_meeting : (w : World) (s : RegionState) (r u : ℕ) → Between w s → GoroutineHasNoNext w r ⊎ GoroutineHasNoNext w u
     → tac_step (erased w.code.now) (plain_at s w.state.printed) (Meet r u) ≡ None
 no_meeting w s r u between none = go (tac_step (erased w.code.now) (plain_at s w.state.printed) (Meet r u)) refl
@@ -562,7 +563,7 @@ no_meeting w s r u between none = go (tac_step (erased w.code.now) (plain_at s w
         (tac_step (erased w.code.now) (plain_at s w.state.printed) (Meet r u)) next
         (met_so w.code.now (plain_at s w.state.printed) r u) e) none)
 
--- what is no step over what the code keeps of the memory is none over the whole
+-- if there is no step over what the code keeps of the memory, there is none over the whole
 pub not_enabled : (w : World) (s : RegionState) (r u : ℕ) → Between w s
     → tac_step (erased w.code.now) w.state (Meet r u) ≡ None
     → tac_step (erased w.code.now) (plain_at s w.state.printed) (Meet r u) ≡ None
@@ -575,7 +576,7 @@ none_left : (n : ℕ) → ◌≡◌ {A = List Duty} (drop n []) []
 none_left zero = refl
 none_left (suc n) = refl
 
--- no goroutine offers on this channel, where none makes an offer
+-- no goroutine offers on this channel, if none makes an offer at all
 no_offer_stands : (o : ℕ) (hs : List spec.Holder)
     → ((g : ℕ) (h : spec.Holder) → slice_get hs g ≡ Some h → h.offer ≡ NoOffer)
     → list_any (λ (q : spec.Holder). offers_on o q.offer) hs ≡ false
@@ -584,7 +585,7 @@ no_offer_stands o (h ∷ hs) none =
     ap (λ b. b || list_any (λ (q : spec.Holder). offers_on o q.offer) hs) (ap (offers_on o) (none 0 h refl))
     ∙ no_offer_stands o hs (λ g k e. none (suc g) k e)
 
--- it owes what it owed, where it has the same frames
+-- it owes what it owed, if it has the same frames
 owes_still : (code : Code) (s t : RegionState) (j : ℕ) (c : Holder) (y : spec.Holder)
     → frames_of t.plain j ≡ frames_of s.plain j → OwesNext code s j c y → OwesNext code t j c y
 owes_still code s t j c y frames was = record {
@@ -598,7 +599,7 @@ removes_are : (frame : TacFrame) (op : CodeOp) (to : Option ℕ) (action : Actio
     → op ≡ Do to action from removes → removes_of op ≡ removes_behind frame op
 removes_are frame op to action from removes is = ap removes_of is ∙ sym (ap (removes_behind frame) is)
 
--- the next instruction of a goroutine, from another view of its frames
+-- the next instruction of a goroutine, for frames that are known in another form
 next_instr : (w : World) (g : ℕ) (next : Next) (at : IsNextInWorld w g next) (frame : TacFrame) (callers : List TacFrame)
     (instr : CodeInstr) → slice_get w.state.goroutines g ≡ Some (frame ∷ callers)
     → current w.code.now frame ≡ Some instr → at.is.instr ≡ instr
@@ -615,7 +616,7 @@ next_instr w g next at frame callers instr e cur =
     same : at.frame ≡ frame
     same = first at.frame frame at.callers callers (sym at.frames ∙ e)
 
--- where a goroutine goes on from, from another view of its frames
+-- where a goroutine continues from, for frames that are known in another form
 goes_from : {code : Code} {frames next : List TacFrame} (on : OnFrom code frames next) (frame : TacFrame)
     (callers : List TacFrame) (instr : CodeInstr) → frames ≡ frame ∷ callers → current code frame ≡ Some instr
     → removes_behind frame instr.op ≡ removes_behind on.frame on.instr.op
@@ -701,7 +702,7 @@ module _ (w v : World) (s : RegionState) (r u : ℕ) (between : Between w s)
   both = yields_is {P = MetSo w.code.now s.plain r u} (tac_step (erased w.code.now) s.plain (Meet r u)) shown.next
       (met_so w.code.now s.plain r u) shown.step
 
-  -- along which edges they go on
+  -- along which edges they continue
   abbrev goes_r : OnFrom w.code.now both.receiver (both.go_on both.v)
   goes_r = receive_goes both.receives both.v
 

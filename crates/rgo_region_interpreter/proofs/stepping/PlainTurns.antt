@@ -1,4 +1,5 @@
--- A turn of at most one step over what the code keeps of the memory is one over the whole memory.
+-- A turn of at most one step over what the code keeps of the memory is one over the whole memory. The reasons for which a turn ends are
+-- compared as well: a wait, a limit or an end of the one is that of the other.
 use Rattle.std.proofs.Common.{◌≡◌, ◌⊎◌, inl, inr, ℕ, zero, suc, ◌≤◌, Bool, true, false, ◌&&◌, List, []}
 use Rattle.std.proofs.Common.{length, replicate, Option, Some, None, refl, sym, ap, ◌∙◌, subst, nat_le, if◌then◌else◌}
 use Rattle.std.proofs.Common.{nat_lt, arith, true≢false, slice_get, option_and_then}
@@ -154,7 +155,7 @@ nothing_printed : (s : TurnEnd) (bytes : List ℕ) → ChangesPrint s bytes byte
 nothing_printed stop.Printed bytes = tt
 nothing_printed s bytes = refl
 
--- the same turn, where want of room for regions counts as want of memory
+-- the same turn, with a lack of room counted as a lack of memory: this machine has no room to run out of
 pub turns_without_regions : (code : Code) (limits : Limits) (k k' : TacState) (g at_most : ℕ) (turned : Turned)
     → Turns (tac (erased code)) limits k k' g at_most turned → Turns (tac (erased code)) limits k k' g at_most
     (record { steps = turned.steps; stop = plain_turn_end turned.stop })
@@ -190,7 +191,7 @@ never_no_room stop.TooDeep why e = cc
 never_no_room stop.Full why e = cc
 never_no_room stop.NoMemory why e = cc
 
--- a turn after which the run goes on has not ended it
+-- a turn after which the run continues has not ended it
 pub goes_running : (code : Code) (limits : Limits) (k : TacState) (g at_most steps : ℕ) (s : TurnEnd)
     → goes_by s steps ≡ true → IsOver (tac (erased code)) limits k g at_most steps s → k.ended ≡ None
 goes_running code limits k g at_most steps stop.Spent e over = over.0
@@ -218,7 +219,7 @@ module _ (code : Code) (limits : Limits) (s : RegionState) (g : ℕ) (turned : T
   abbrev p : TacState
   p = plain_at s k.printed
 
-  -- where no step was taken
+  -- if no step was taken
   pub idle_turn : turned.steps ≡ 0 → Turns (tac (erased code)) limits p p g 1 turned
   idle_turn e = record {
     leads = subst (λ n. LeadsWithin (tac (erased code)) limits p (replicate n (One g)) p) (sym e) refl;
@@ -235,7 +236,7 @@ module _ (code : Code) (limits : Limits) (s : RegionState) (g : ℕ) (turned : T
   pub step_shows : turned.steps ≡ 1 → StepShows code s k (One g) k'
   step_shows e = shown_step code s checked good k shows running (One g) k' (step_is code turns e).0
 
-  -- where it was taken, and the region machine comes to this state by it
+  -- if it was taken, and the region machine comes to this state by it
   module _ (e : turned.steps ≡ 1) (t : RegionState) (all : AllGood code t) (after : StateShows k' t)
       (is : ◌≡◌ {A = TacState} (record (step_shows e).next { printed = k'.printed }) (plain_at t k'.printed)) where
     pub done_turn : Turns (tac (erased code)) limits p (plain_at t k'.printed) g 1 turned

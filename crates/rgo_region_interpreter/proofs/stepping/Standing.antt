@@ -1,5 +1,6 @@
--- A world at a state of its run: what holds of the run there, and what a driver knows after turns, after meetings, and
--- after the print was cleared.
+-- A world at a state of its run: what holds of the run there, and what a driver knows after turns, after meetings, and after the print
+-- was cleared. The driver's facts are about the three-address machine; the run with regions that they come from is hidden in
+-- `IsWorldAt`.
 use Rattle.std.proofs.Common.{◌≡◌, ℕ, Bool, true, false, List, [], ◌++◌, Option, Some, None, Result, Ok, Err, refl, sym}
 use Rattle.std.proofs.Common.{ap, ◌∙◌, subst, append_assoc, slice_get, option_and_then}
 use Rattle.std.specs.Prelude.{IfOk}
@@ -38,9 +39,9 @@ use Rattle.rgo_region_interpreter.proofs.lifting.Steps.{none_of_kept}
 use Rattle.rgo_region_interpreter.proofs.lifting.Good.{shown_none, shown_steps_alike, state_shows}
 use Rattle.rgo_region_interpreter.proofs.holding.Orderly.{runs_are_orderly}
 
--- ---- where it stands
+-- ---- where it is
 
--- it is between instructions, where the run has not ended
+-- it is between instructions, unless the run has ended
 pub stands_between : (w : World) (given : List ℕ) (p : TacState) (at : IsWorldAt w given p) → p.ended ≡ None
     → Between w at.reaches.state
 stands_between w given p at on = record {
@@ -71,7 +72,7 @@ pub kept_goroutines : (w : World) (given : List ℕ) (p : TacState) → IsWorldA
     → w.state.goroutines ≡ p.goroutines
 kept_goroutines w given p at = at.shown.goroutines ∙ sym (ap (λ v. v.goroutines) at.reaches.is)
 
--- they stand where it says
+-- they are at the channels that it says
 pub kept_standing : (w : World) (given : List ℕ) (p : TacState) → IsWorldAt w given p → (g : ℕ)
     → standing (tac (erased w.code.now)) w.state g ≡ standing (tac (erased w.code.now)) p g
 kept_standing w given p at g =
@@ -112,9 +113,9 @@ kept_meeting w given p at on found finds = go found finds
     go (Ok (Some met)) finds = λ e. finds (none_kept met.0 met.1 e)
     go (Err e) finds = finds
 
--- ---- where the run goes on
+-- ---- where the run continues
 
--- the run of w goes on to state t, with what v has printed
+-- the run of w continues to state t, with what v has printed
 abbrev pub reaches_on : (w v : World) (given : List ℕ) (p : TacState) (x : WorldReaches w given p) (t : RegionState)
     (events : List Event) → run (roomy_step w.code.now w.sizes) x.state events ≡ Some t
     → v.code.now ≡ w.code.now → v.sizes ≡ w.sizes → SamePrint w v x.state t
@@ -307,7 +308,7 @@ module _ (w : World) where
     unstopped = at.unstopped;
   }
 
-  -- what was printed is given out
+  -- what was printed is written out
   pub clears : driver.Clears (view_of w) (view_of (record w { state = record w.state { printed = [] } }))
   clears = record {
     machine = refl;

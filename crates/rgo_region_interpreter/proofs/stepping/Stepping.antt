@@ -1,4 +1,5 @@
--- A step of a goroutine: where it has no next instruction, and where what it owes before that was not all done.
+-- A step of a goroutine, by how far it came: it has no next instruction, not all was done that it owes before that, or the instruction
+-- was done.
 use Rattle.std.proofs.Common.{◌≡◌, ℕ, true, List, [], ◌∷◌, Option, Some, None, refl, sym, ap, ◌∙◌, subst, arith}
 use Rattle.std.proofs.Common.{slice_get, option_and_then}
 use Rattle.std.proofs.lemmas.List.{append-nil}
@@ -134,7 +135,7 @@ module _ (w v : World) (limits : Limits) (g : ℕ) (readied : (s : RegionState) 
       r : Readies w v s g
       r = readied s between
 
--- an operation that is no call, no start and no return
+-- an operation that neither calls, starts nor returns
 pub acting_op : (op : CodeOperation) → ((to : Option ℕ) (n : ℕ) (from : _) → op ≡ code_op.Call to n from → ⊥)
     → ((n : ℕ) (from : _) → op ≡ code_op.Go n from → ⊥) → ((value : Option ℕ) → op ≡ code_op.Return value → ⊥)
     → ActsBy (operation_of op)

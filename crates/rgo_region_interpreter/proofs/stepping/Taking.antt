@@ -1,5 +1,5 @@
--- Turns of at most one step of a world: those in which nothing was done, those after which what is owed is done, those
--- that end the run, and those after which memory ran out.
+-- Turns of at most one step of a world: those in which nothing was done, those after which what is owed is done, those that end the
+-- run, and those after which memory ran out. Each kind of instruction ends in one of these four.
 use Rattle.std.proofs.Common.{◌≡◌, ◌⊎◌, ℕ, List, [], ◌∷◌, ◌++◌, Some, None}
 use Rattle.std.proofs.Common.{refl, sym, ap, ◌∙◌, subst, arith, drop, replicate, slice_get, option_and_then}
 use Rattle.std.proofs.lemmas.List.{append-nil}
@@ -218,7 +218,7 @@ module _ (w v : World) (s : RegionState) (limits : Limits) (g : ℕ) (turned : T
   shows_step e = step_shows w.code.now limits s g turned w.state v.state between.prepared.checked between.good shows
       between.running takes.turns e
 
-  -- the region machine comes to t by it, where the owners of new objects are added
+  -- the region machine comes to t by it, with the owners of new objects added
   module _ (one : turned.steps ≡ 1) (t : RegionState)
       (step : region_step w.code.now w.sizes.page_words s (Instruct (One g)) ≡ Some t)
       (plain : t.plain ≡ plain_after s (shows_step one).next)

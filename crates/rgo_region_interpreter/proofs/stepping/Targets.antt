@@ -1,5 +1,5 @@
--- What is known of a goroutine that is about to do an instruction, owes nothing, and has nothing to acknowledge: what it
--- touches is live, and there is a region for the object that it makes.
+-- What is known of a goroutine that is about to do an instruction, owes nothing, and has nothing to acknowledge: what it touches is
+-- live, and there is a region for the object that it makes. So the code tests neither.
 use Rattle.std.proofs.Common.{◌≡◌, ℕ, true, ◌&&◌, List, [], ◌∷◌, Option, Some, None}
 use Rattle.std.proofs.Common.{refl, sym, ap, ◌∙◌, subst, arith, slice_get}
 use Rattle.std.proofs.lemmas.Option.{slice_get_within}
@@ -67,7 +67,7 @@ module _ {code : Code} {s : RegionState} {g : ℕ} {h : Holder} {frame : TacFram
   abbrev pub top : Top code h frame callers
   top = progress.top code i.checked s g h frame callers instr i.good i.there i.at i.cur i.none
 
-  -- an instruction that makes an object gives a variable a pointer
+  -- an instruction that makes an object writes a pointer to a variable
   pub target : (to : Option ℕ) (action : Action) (from removes : List ℕ) → instr.op ≡ Do to action from removes
       → makes_object action ≡ true → HasTarget (erased_fn top.stands.fn) to
   target = progress.target code i.checked s g h frame callers instr i.good i.there i.at i.cur i.none
