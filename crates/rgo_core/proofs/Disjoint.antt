@@ -1,4 +1,4 @@
--- Two rows of words that share none.
+-- Two rows of words that do not overlap.
 use Rattle.std.proofs.Common.{◌≢◌, ◌⊎◌, ℕ, zero, suc, ◌+◌, ◌-◌, ◌<◌, ◌≤◌, inl, inr, ⊎_elim, arith}
 
 pub order : (m n : ℕ) → (m < n) ⊎ (n ≤ m)

@@ -1,4 +1,4 @@
--- The examples.
+-- The examples: small clocks, numbers and tables, each computed or refuted by one field.
 use Rattle.std.proofs.Common.{◌≡◌, ℕ, zero, suc, ◌+◌, ◌<◌, ◌≤◌, ◌==◌, nat_le, nat_lt, true, false, List, [], ◌∷◌, ◌++◌, Option, Some, None, length, slice_get, slice_set, slice_index, sum_by, refl, ap, sym, subst, ◌∙◌, arith}
 use Rattle.std.proofs.lemmas.Bool.Decides.{nat_tests}
 use Rattle.std.proofs.lemmas.List.{append-nil}
@@ -30,7 +30,7 @@ each_of_one : (a : ClockRec) (P : ℕ → ClockRec → Type 0) → P 0 a → (g 
 each_of_one a P p zero c e = subst (P 0) (same_Some a c e) p
 each_of_one a P p (suc g) c e = let z : None ≡ Some c = e in cc z
 
--- of a record's only piece
+-- the only piece of a record
 one_piece : (a : Drawn) (P : Drawn → Type 0) → P a → (i : ℕ) (d : Drawn) → slice_get (a ∷ []) i ≡ Some d → P d
 one_piece a P p zero d e = subst P (same_Some a d e) p
 one_piece a P p (suc i) d e = let z : None ≡ Some d = e in cc z

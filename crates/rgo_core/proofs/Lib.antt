@@ -1,4 +1,4 @@
--- of the crates below, for those above
+-- what proofs of the crates above cite of the crates below
 pub use Rattle.rgo_core_channels.proofs as Channels
 pub use Rattle.rgo_core_frames.proofs as Frames
 pub use Rattle.rgo_core_memory.proofs as Memory

@@ -1,4 +1,5 @@
--- Lists by position, words after a write, and sums over lists.
+-- Lists by position, words after a write, and sums over lists. The rule and the machine read lists by different functions, which are
+-- shown to agree here once.
 use Rattle.std.proofs.Common.{◌≡◌, ◌≢◌, ℕ, zero, suc, ◌+◌, ◌*◌, ◌<◌, ◌≤◌, ◌==◌, cond, Bool, true, false, List, [], ◌∷◌, ◌++◌, Some, length, take, slice_get, slice_set, slice_index, sum_by, count_by, refl, ap, sym, ◌∙◌, arith, append_assoc, suc-mul}
 use Rattle.std.proofs.lemmas.Bool.Decides.{nat_tests}
 use Rattle.std.proofs.lemmas.List.{append-nil, get_or-set_same, get_or-set_other}

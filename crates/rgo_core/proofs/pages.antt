@@ -1,4 +1,4 @@
--- Accesses that claim pages, reserve them, and give chains back.
+-- Accesses that claim pages, reserve them, and return chains.
 pub mod Chains
 pub mod Claims
 pub mod Reserves

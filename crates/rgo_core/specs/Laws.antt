@@ -1,4 +1,5 @@
--- The law of each access of a goroutine and of its steps without one. What a law asks can be read off the goroutine's own record.
+-- The law of each access of a goroutine and of its steps without one. What a law requires can be read off the goroutine's own record. No
+-- premise is about words: they may change before the access.
 use Rattle.std.specs.Prelude.{◌≡◌, ◌<◌, ◌≤◌, ◌+◌, ◌%◌, ◌^◌, ℕ, bit_or, List, [], ◌∷◌, length, false, true, Option, Some}
 use Rattle.rgo_sound.specs.Code.Code.{Call, CodeFn, CodeOp, Go, Print}
 use Rattle.rgo_core_channels.specs.Records.{at_rest}
@@ -32,7 +33,7 @@ printed_by T c a bytes n = record c {
   frame = after_op T.code c.frame.holder a.w a.ws a.instr.op (word_moved a.w (a.w.next + 1) ∷ a.ws);
 }
 
--- a print, of what the words of its operands show, draws a ticket
+-- A print, of what the words of its operands show, draws a ticket. If the clock shows the end already, the bytes are kept as void.
 abbrev pub PrintMove : Type 0
 PrintMove = (T : Setup) (g : ℕ) (c : Record) (pieces : List Piece) (from removes : List ℕ)
     (a : IsAtOp T.code c (Print pieces from removes)) → c.side ≡ at_rest → length c.clock.prints < 2 ^ 43
@@ -54,8 +55,8 @@ abbrev pub child_of : (T : Setup) (c : Record) {op : CodeOp} → IsAtOp T.code c
 child_of T c {op} a f callee from =
     begins_with (first_in (child_records T.code c.frame.holder op (word_called callee f (words_of a.w from) ∷ [])))
 
--- A number is drawn for a goroutine, which starts with what its function is called with; or there are as many as there may be. A
--- record draws no further number after that.
+-- A number is drawn for a goroutine, which starts with the arguments of its function; or there are as many as there may be. A
+-- record draws no further number after a refusal, so that the word cannot grow without end.
 abbrev pub StartMove : Type 0
 StartMove = (T : Setup) (g : ℕ) (c : Record) (f : ℕ) (callee : CodeFn) (from : List ℕ) (passes : List Class) (removes : List ℕ)
     (a : IsAtOp T.code c (Go f from passes removes)) → code_function T.code f ≡ Some callee → c.side ≡ at_rest → c.clock.refused ≡ false
@@ -69,20 +70,20 @@ clock_after [] c = instructed c
 clock_after (d ∷ ds) c = c
 
 -- A local instruction or duty of the record that is not the return of `main` needs no access, if it leaves no more frames than
--- there may be.
+-- there may be. The bound is a premise here because the run of the rule stays within the limits.
 abbrev pub LocalStill : Type 0
 LocalStill = (T : Setup) (g : ℕ) (c : Record) (e : FrameRec) → c.side ≡ at_rest → quiet T.code g c.frame ≡ Some e
     → length e.frames ≤ deepest
     → IsStill T g c (record c { clock = clock_after c.frame.holder.duties c.clock; frame = e })
 
--- the return of `main` ends the run
+-- The return of `main` ends the run. It is a local step to the machine, but others have to see it, hence the access.
 abbrev pub ExitMove : Type 0
 ExitMove = (T : Setup) (g : ℕ) (c : Record) (e : FrameRec) → c.side ≡ at_rest → c.frame.holder.duties ≡ []
     → local T.code c.frame ≡ Some e → is_exit g e.frames ≡ true
     → Moves T g c clock_at (λ n. bit_or n (2 ^ 63))
     (λ n d. d ≡ record c { clock = with_end (instructed c.clock) n (Ended Exit); frame = e })
 
--- A run is ended for want of room, or because it met a limit, where whatever the rest of the table is the cause holds; memory may
+-- A run is ended for lack of room, or because it met a limit, if the cause holds whatever the rest of the table is; memory may
 -- run out in any state.
 abbrev pub StopMove : Type 0
 StopMove = (T : Setup) (g : ℕ) (c : Record) (why : Limit) → ((x : Situation T g c) → ReachesLimit T.code T.sizes T.limits why x.s)
@@ -95,7 +96,8 @@ CallsMove = (T : Setup) (g : ℕ) (c : Record) (to : Option ℕ) (f : ℕ) (call
     → length c.frame.frames ≡ deepest
     → Moves T g c clock_at (λ n. bit_or n (2 ^ 63)) (λ n d. d ≡ record c { clock = with_end c.clock n (Stopped Calls) })
 
--- a goroutine to which a number was refused starts another
+-- A goroutine to which a number was refused starts another. There are still as many goroutines as there may be: one that has returned
+-- stays in the machine's list.
 abbrev pub FullMove : Type 0
 FullMove = (T : Setup) (g : ℕ) (c : Record) (f : ℕ) (callee : CodeFn) (from : List ℕ) (passes : List Class) (removes : List ℕ)
     → IsAtOp T.code c (Go f from passes removes) → code_function T.code f ≡ Some callee → c.clock.refused ≡ true

@@ -1,4 +1,5 @@
--- Where a goroutine is, by its record: before an instruction, owing nothing and with no offer.
+-- Where a goroutine is, by its record: before an instruction, owing nothing and with no offer. No other goroutine can change this. With an
+-- offer it could: a receiver may make the send in the run.
 use Rattle.std.specs.Prelude.{◌≡◌, ℕ, List, [], ◌∷◌, Option, Some}
 use Rattle.rgo_sound.specs.Code.Code.{Code, CodeFn, CodeInstr, CodeOp}
 use Rattle.rgo_core_frames.specs.steps.Actions.{after_action}

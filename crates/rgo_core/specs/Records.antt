@@ -1,4 +1,5 @@
--- The record of a goroutine: what it has drawn, ended, started and counted, and what it has of frames, memory and channels.
+-- The record of a goroutine: what it has drawn, ended, started and counted, and what it has of frames, memory and channels. It is what
+-- the run knows of a goroutine, which is more than the code keeps. Only accesses of the goroutine itself change it.
 use Rattle.std.specs.Prelude.{ℕ, suc, ◌+◌, ◌%◌, nat_le, Bool, true, false, List, [], ◌∷◌, ◌++◌, Option, Some, None, if◌then◌else◌}
 use Rattle.rgo_sound.specs.RegionMachine.Counts.{Counts}
 use Rattle.rgo_sound.specs.RegionMachine.States.{Mark}
@@ -8,7 +9,7 @@ use Rattle.rgo_core_frames.specs.Records.{FramesRec as FrameRec}
 use Rattle.rgo_core_memory.specs.Opening.{first_record}
 use Rattle.rgo_core_memory.specs.Records.{Rec as MemoryRec}
 
--- bytes that were printed, with their ticket; void if the run had ended before
+-- Bytes that were printed, with their ticket; void if the run had ended before. They go out later, when the driver sorts the tickets.
 pub record Drawn : Type 0 where
   pub ticket : ℕ
   pub bytes : List ℕ
@@ -23,9 +24,9 @@ pub record ClockRec : Type 0 where
   pub children : List ℕ
   -- whether a number was refused to it
   pub refused : Bool
-  -- its share of what the run has made and done
+  -- Its share of what the run has made and done. No word has the sums, so counting costs no access. The driver adds up the shares.
   pub share : Counts
-  -- how many pages of a region that it has removed it has still to free
+  -- How many pages of a region that it has removed it has still to free. By it the loop over a chain ends.
   pub owed : ℕ
   -- how many accesses it has made
   pub accesses : ℕ
@@ -60,7 +61,7 @@ steps_of c = c.clock.share.steps
 
 -- ---- counts
 
--- pages that are still to be freed count as returned, as they do in the region machine
+-- Pages that are still to be freed count as returned, as they do in the region machine: that returns all at the end of the last stake.
 abbrev pub counted : ClockRec → Counts
 counted c = record c.share { returned = c.share.returned + c.owed }
 
@@ -74,11 +75,11 @@ abbrev pub end_bit : Option Mark → ℕ
 end_bit None = 0
 end_bit (Some mark) = 9223372036854775808
 
--- whether it shows the end
+-- whether the clock shows the end; once it does, it always will
 abbrev pub has_ended : ℕ → Bool
 has_ended n = nat_le 9223372036854775808 n
 
--- what was drawn where the clock was n
+-- what was drawn when the clock was n
 abbrev pub drawn_at : ℕ → List ℕ → Drawn
 drawn_at n bytes = record { ticket = n % 9223372036854775808; bytes = bytes; is_void = has_ended n }
 
@@ -111,7 +112,7 @@ ticked c = accessed (instructed c)
 abbrev pub with_print : ClockRec → ℕ → List ℕ → ClockRec
 with_print c n bytes = record (ticked c) { prints = c.prints ++ drawn_at n bytes ∷ [] }
 
--- an end for which the clock was n
+-- An end for which the clock was n. If the run had ended before, this record has not ended it, and keeps what it had.
 abbrev pub with_end : ClockRec → ℕ → Mark → ClockRec
 with_end c n mark = record (accessed c) { first = if has_ended n then c.first else Some mark }
 

@@ -17,7 +17,7 @@ pub mod memory_moves;
 pub mod records;
 pub mod table;
 
-// The crates below that those above name too.
+// The crates below that those above name too, so that these need one line of imports and not four.
 pub use rgo_core_channels as channels;
 pub use rgo_core_frames as frames;
 pub use rgo_core_memory as memory;

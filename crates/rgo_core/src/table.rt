@@ -30,7 +30,7 @@ use std::alloc::{AllocError, Global};
 use std::marker::Brand;
 use std::snapshot::Snapshot;
 
-/// What is fixed when a table opens. It has the code in proofs alone.
+/// What is fixed when a table opens. Only proofs see the code in it, since the table itself has no use for it.
 #[derive(Drop)]
 pub struct Plan {
     pub code: Snapshot<Checked>,
@@ -38,7 +38,7 @@ pub struct Plan {
     pub limits: Limits,
 }
 
-/// Runs of the region machine explain the words.
+/// Runs of the region machine explain the words. This is where the machine of the rule is chosen.
 pub struct ByRuns;
 
 impl Explanation<Record, Plan> for ByRuns {
@@ -56,10 +56,11 @@ impl Explanation<Record, Plan> for ByRuns {
 /// The table of a run.
 pub type RunTable = Cells<Record, Plan, ByRuns>;
 
-/// What a thread accesses the table with. It has no bytes.
+/// The right of a thread to access the table. It has no bytes.
 pub type RunSeat = Chair<Record>;
 
-/// A table as a run begins, and the seat with the record of `main`. `variables` is the number of the code's package variables.
+/// A table as a run begins, and the seat with the record of `main`. `variables` is the number of the code's package variables. All words
+/// are 0 but two: `main` is counted, and Global has a stake that never ends.
 pub fn open(
     alloc: Global,
     code: &Checked,
@@ -111,7 +112,8 @@ pub fn look(table: &RunTable, seat: &mut RunSeat) -> bool
     load::<Record, Plan, ByRuns, Brand, _>(table, seat, 0, &()) >= 1 << 63
 }
 
-/// The last words. One run explains them, and leads to the records that the seat has, among others.
+/// The last words. One run explains them, and leads to the records that the seat has, among others. What a run claims of its end follows
+/// from here, so a driver retires all goroutines to this seat before it closes.
 pub fn close(table: RunTable, seat: RunSeat) -> Closed<(), Global>
     requires own { seat.table_id ≡ table.shared.table_id }
     ensures counts { (slots_len result.words ≡ table.shared.table_id.words)

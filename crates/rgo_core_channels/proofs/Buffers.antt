@@ -1,5 +1,6 @@
 -- The store that commits an operation of one goroutine, and unlocks: a send, a receive, the zero of a closed channel, a
--- close.
+-- close. `Forward` computes the step of the region machine, `Steps` the image after the change of one control. What is left for
+-- each operation is the new queue, cell by cell.
 use Rattle.std.proofs.Common.{◌≡◌, ◌≢◌, ℕ, suc, ◌+◌, ◌-◌, ◌%◌, ◌<◌, ◌≤◌, true, false, List, [], ◌∷◌, ◌++◌}
 use Rattle.std.proofs.Common.{length, Some, slice_get, slice_set, slice_index, refl, ap, sym, subst, ◌∙◌, inl, inr}
 use Rattle.std.proofs.Common.{⊎_elim, arith, option_map, length-append}
@@ -83,7 +84,7 @@ module _ (T : Moment) (g : ℕ) (c : ChannelRec) (mine : slice_get T.recs g ≡ 
         let w = locks.1 in
         omega arith
 
-    -- what the control says
+    -- the channel by the control that was found: nobody has changed it under the lock
     pub said : (closed_of n ≡ bit k.closed) × (count_of n ≡ count k (T.at.phase o)) × (head_of n ≡ T.at.head o)
     said =
         let e = n_is in
@@ -106,7 +107,7 @@ module _ (T : Moment) (g : ℕ) (c : ChannelRec) (mine : slice_get T.recs g ≡ 
     pub is_open : closed_of n ≡ 0 → k.closed ≡ false
     is_open e = open_or k.closed (sym said.0 ∙ e)
 
-    -- one goroutine goes on, and offers stay
+    -- one goroutine continues, and offers stay
     module _ {action : Action} {operands : List Value} (N : Next T.code s g action operands) (free : c.post ≡ Nowhere)
         (z : Chan) (v : Value) (x hd : ℕ) where
       abbrev pub b : RegionState

@@ -1,4 +1,5 @@
--- Goroutines that are blocked by the words, none of which has locked a channel, are in a deadlock.
+-- Goroutines that are blocked by the words, none of which has locked a channel, are in a deadlock. First no control is locked: a locked
+-- one has a goroutine that has locked it. Then `Stuck` shows that no pick has a step.
 use Rattle.std.proofs.Common.{◌≡◌, ℕ, ◌%◌, [], ◌∷◌, length, Some, slice_get, slice_index, refl, ap}
 use Rattle.std.proofs.Common.{sym, subst, ◌∙◌, inl, inr, arith}
 use Rattle.rgo_sound.specs.Typed.declared.actions.Action.TheVariants.{Recv, Send}

@@ -1,4 +1,4 @@
--- Arithmetic of controls, and of a ring of cells.
+-- Arithmetic of controls, and of a ring of cells: quotients and remainders of a sum whose parts are in separate bits.
 use Rattle.std.proofs.Common.{◌≡◌, ℕ, suc, ◌+◌, ◌%◌, ◌<◌, ◌≤◌, Bool, true, false, refl, ap, sym, ◌∙◌, arith}
 use Rattle.std.proofs.Math.Nat.{mod-eq_of_lt, add-mod_left, mod_self}
 use mathlib.Core.Logic.{dite}
@@ -40,7 +40,7 @@ pub shut_or : (b : Bool) → bit b ≡ 1 → b ≡ true
 shut_or true e = refl
 shut_or false e = absurd (omega arith)
 
--- the place behind the head
+-- the place after the head
 pub turned : (h j n : ℕ) → h < n → ((h + 1) % n + j) % n ≡ (h + suc j) % n
 turned h j n lt = dite (ℕ_discrete (h + 1) n)
     (λ e. let z : (h + 1) % n ≡ 0 = ap (λ (x : ℕ). x % n) e ∙ mod_self n in

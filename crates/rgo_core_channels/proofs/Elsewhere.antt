@@ -1,4 +1,6 @@
--- Steps of other kinds keep the image of channels.
+-- Steps of other kinds keep the image of channels. Field by field: the words are as before, the others are as before by region safety,
+-- and a channel is an old or the new one. The hard one is that no channel of which a record knows is removed: that goroutine is at the
+-- channel, so it has a stake in its region, and it takes no part in this step.
 use Rattle.std.proofs.Common.{◌≡◌, ◌≢◌, ◌⊎◌, ℕ, zero, suc, ◌+◌, ◌<◌, ◌≤◌, true, List, [], ◌∷◌, ◌++◌, length, replicate, Some, None}
 use Rattle.std.proofs.Common.{slice_get, slice_index, refl, ap, sym, subst, ◌∙◌, inl, inr, ⊎_elim, arith}
 use Rattle.std.proofs.lemmas.Option.{same_Some, slice_get_within}
@@ -77,7 +79,7 @@ module _ (T : Moment) (g : ℕ) (event : Event) (words : List ℕ) (s : RegionSt
       → Next T.code s j action vs
   next_stays j action vs ne n = next_same T.code T.state s j action vs (same_of j action vs ne n) n
 
-  -- who knows of a channel is another
+  -- a goroutine whose record knows of a channel is another one
   other_knows : (j a : ℕ) (y : ChannelRec) → slice_get T.recs j ≡ Some y → KnowsOf y a → j ≢ g
   other_knows j a y e q w =
       let same : at_rest ≡ y = same_Some at_rest y (sym mine ∙ (ap (slice_get T.recs) (sym w) ∙ e)) in
@@ -93,7 +95,7 @@ module _ (T : Moment) (g : ℕ) (event : Event) (words : List ℕ) (s : RegionSt
       → (slice_get T.recs j ≡ Some y) ⊎ ((length T.recs ≤ j) × (at_rest ≡ y))
   was_there j y e = old_or_new T.recs children at_rest j y e
 
-  -- ---- channels of which a record knows are not gone
+  -- ---- channels of which a record knows are still live
 
   live_still : (j a o : ℕ) (k : Chan) (y : ChannelRec) → slice_get T.recs j ≡ Some y → KnowsOf y a → On T.state o k
       → T.place o ≡ a → may_touch s (Some o) ≡ true
@@ -138,14 +140,14 @@ module _ (T : Moment) (g : ℕ) (event : Event) (words : List ℕ) (s : RegionSt
       → slice_index words (cell o i) ≡ slice_index T.words (T.cell o i)
   in_cell o i k on h = ap (slice_index words) (X.spots o i k on h) ∙ X.same o (suc (suc i)) k on (omega arith)
 
-  -- the words of a channel lie where they lay
+  -- the words of a channel are where they were
   lay : (o i : ℕ) (k : Chan) → On T.state o k → i < 2 + extent k.capacity
       → word_of_channel place cell o i ≡ word_of_channel T.place T.cell o i
   lay o zero k on h = X.places o k on
   lay o (suc zero) k on h = ap (λ n. n + 1) (X.places o k on)
   lay o (suc (suc i)) k on h = X.spots o i k on (omega arith)
 
-  -- where the channel of a goroutine lies, it lay
+  -- the channel of a goroutine is where it was
   stays_at : (j a : ℕ) (y : ChannelRec) → slice_get T.recs j ≡ Some y → KnowsOf y a → IsAt T.code place s j y.post a
   stays_at j a y e q = by (K.knows j a y e q)
     where
@@ -169,7 +171,7 @@ module _ (T : Moment) (g : ℕ) (event : Event) (words : List ℕ) (s : RegionSt
       was : (h : Holder) × (slice_get T.state.holders j ≡ Some h)
       was = get_some T.state.holders j (let a = K.as_many in let b = slice_get_within T.recs j y e in omega arith)
 
-  -- no two words of what is new are one
+  -- no two words of the new channel are the same
   one_new : (o p i j : ℕ) (k l : Chan) → On s o k → On s p l → IsNew o k → IsNew p l → i < 2 + extent k.capacity
       → j < 2 + extent l.capacity → word_of_channel place cell o i ≡ word_of_channel place cell p j → (o ≡ p) × (i ≡ j)
   one_new o p i j k l e e' new new' h h' q =

@@ -1,4 +1,5 @@
--- The region machine's step of one goroutine at a channel, computed forward.
+-- The region machine's step of one goroutine at a channel, computed forward. Its definition is a chain of tests, and each line of the
+-- proof shows one of them to be true. No cases are needed, since what the goroutine does next is known.
 use Rattle.std.proofs.Common.{◌≡◌, ℕ, ◌+◌, true, false, ◌&&◌, List, [], ◌∷◌, ◌++◌, length, Option, Some, None}
 use Rattle.std.proofs.Common.{refl, ap, sym, ◌∙◌, slice_set, if◌then◌else◌, option_map, option_and_then}
 use Rattle.std.proofs.lemmas.List.{append-nil}
@@ -33,7 +34,7 @@ use Rattle.rgo_core_channels.specs.After.{after_trap}
 use Rattle.rgo_core_memory.proofs.Rows.{set_again}
 use Rattle.rgo_core_channels.proofs.Lists.{none_past}
 
--- where the frame stands
+-- the frame is at this instruction
 pub stands_is : (code : Code) (s : RegionState) (g : ℕ) (action : Action) (operands : List Value)
     (n : Before code s g action operands)
     → tac_stand (erased code) n.frame ≡ at_channel action (blank_of n) n.instr.place (frame_after_instr n.frame n.to) operands
@@ -110,7 +111,7 @@ module _ (code : Code) (page_words : ℕ) (s : RegionState) (g : ℕ) (action : 
       mark = mark;
     }
 
-  -- it gives a value
+  -- it has a value
   pub does : makes_object action ≡ false → (m : Memory) (v : Value) → length m.heap ≡ length s.plain.memory.heap
       → stepped (tac (erased code)) s.plain g frame callers
       (at_channel action (blank_of n.before) n.before.instr.place (frame_after_instr frame n.before.to) operands)

@@ -1,4 +1,4 @@
--- Lists: a write of what stood there, nothing behind the end, and elements that were appended.
+-- Lists: a write of the old element, nothing after the end, and elements that were appended.
 use Rattle.std.proofs.Common.{◌≡◌, ◌⊎◌, ℕ, zero, suc, ◌+◌, ◌≤◌, List, [], ◌∷◌, ◌++◌, length, replicate, Some, None, refl, ap}
 use Rattle.std.proofs.Common.{slice_get, slice_set, slice_index, inl, inr, ⊎_elim, arith}
 use Rattle.std.proofs.lemmas.Option.{same_Some}
@@ -18,7 +18,7 @@ get_replicated zero a i y e = absurd (let z : None ≡ Some y = e in cc z)
 get_replicated (suc n) a zero y e = same_Some a y e
 get_replicated (suc n) a (suc i) y e = get_replicated n a i y e
 
--- an element is of the first list, or one of those appended
+-- an element is in the first list, or is one of those appended
 pub old_or_new : {X : Type 0} (xs : List X) (n : ℕ) (a : X) (i : ℕ) (y : X)
     → slice_get (xs ++ replicate n a) i ≡ Some y → (slice_get xs i ≡ Some y) ⊎ ((length xs ≤ i) × (a ≡ y))
 old_or_new [] n a i y e = inr (omega arith, get_replicated n a i y e)

@@ -1,4 +1,5 @@
--- That a channel is in a live region, from region safety.
+-- That a channel is in a live region, from region safety: the operand has a channel's type, an instruction may touch its operands, and
+-- a goroutine with an open offer is still at its send.
 use Rattle.std.proofs.Common.{◌≡◌, ℕ, true, List, [], ◌∷◌, map, Option, Some, None, slice_get, refl, ap, sym, subst, ◌∙◌}
 use Rattle.std.proofs.Common.{inl, inr}
 use Rattle.rgo_sound.specs.Typed.declared.actions.Action.{Action}

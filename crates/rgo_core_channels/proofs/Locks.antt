@@ -1,4 +1,5 @@
--- Reading a capacity and a control, locking a control, and cells under the lock.
+-- Reading a capacity and a control, locking a control, and cells under the lock. In all of these the state stays. What the record newly
+-- knows is true by the word that was found, and only locking and storing change a word.
 use Rattle.std.proofs.Common.{◌&&◌, ◌≡◌, ◌≢◌, ℕ, zero, suc, ◌+◌, ◌%◌, ◌^◌, ◌<◌, ◌≤◌, ◌==◌, Bool, true, false, List}
 use Rattle.std.proofs.Common.{length, Some, slice_get, slice_set, slice_index, refl, ap, sym, subst, ◌∙◌, inl, inr, ⊎_elim}
 use Rattle.std.proofs.Common.{if◌then◌else◌, arith}
@@ -56,7 +57,7 @@ module _ (T : Moment) (g : ℕ) (c : ChannelRec) (mine : slice_get T.recs g ≡ 
   abbrev pub K : Channels T.code T.page_words T.encode T.place T.cell T.words T.recs T.state T.at
   K = T.channels
 
-  -- what a control says
+  -- what follows from a control
   pub shown : (o : ℕ) (k : Chan) → On T.state o k → (closed_of (slice_index T.words (T.place o)) ≡ bit k.closed)
       × (count_of (slice_index T.words (T.place o)) ≡ count k (T.at.phase o))
       × (head_of (slice_index T.words (T.place o)) ≡ T.at.head o)
@@ -71,7 +72,7 @@ module _ (T : Moment) (g : ℕ) (c : ChannelRec) (mine : slice_get T.recs g ≡ 
       go zero z = let h = (K.unbuffered o k on z).1 in omega arith
       go (suc n) z = let h = (K.buffered o k on (omega arith)).2 in let s = K.small o k on in omega arith
 
-  -- a load tells the record something
+  -- the record notes what was loaded
   module _ (d : ChannelRec) (i : ℕ)
       (to : Channels T.code T.page_words T.encode T.place T.cell T.words (slice_set T.recs g d) T.state T.at) where
     looks : Channels T.code T.page_words T.encode T.place T.cell (slice_set T.words i (slice_index T.words i)) (slice_set T.recs g d)
@@ -141,7 +142,7 @@ module _ (T : Moment) (g : ℕ) (c : ChannelRec) (mine : slice_get T.recs g ≡ 
       within zero z = let h = (K.unbuffered o k on z).1 in let s = (shown o k on).2 in omega arith
       within (suc n) z = let h = (K.buffered o k on (omega arith)).2 in let s = (shown o k on).2 in omega arith
 
-  -- a goroutine looks at the channel at which its offer stands
+  -- a goroutine looks at the channel at which its offer is
   own_looks : (o : ℕ) (k : Chan) → On T.state o k → c.post ≡ Offering (T.place o)
       → LoadsWord T g (T.place o) (with_own_look c (T.place o)) × (slice_index T.words (T.place o) + 4 < 2 ^ 64)
   own_looks o k on post = (

@@ -1,4 +1,6 @@
--- The store that commits an offer, a meeting or an acknowledgement, and unlocks.
+-- The store that commits an offer, a meeting or an acknowledgement, and unlocks. The hard part of an offer is that no goroutine has
+-- another one there (`no_holder`), which the region machine tests over all holders: the image has one phase for each channel. In a
+-- meeting two goroutines change in the state, and one record.
 use Rattle.std.proofs.Common.{◌≡◌, ◌≢◌, ℕ, ◌+◌, ◌-◌, true, false, [], ◌∷◌}
 use Rattle.std.proofs.Common.{length, Some, slice_get, slice_set, refl, ap, sym, subst, ◌∙◌, inl, inr}
 use Rattle.std.proofs.Common.{⊎_elim, arith, nat_eq}
@@ -53,7 +55,7 @@ module _ (T : Moment) where
       → count_of n ≡ count k (T.at.phase o) → phase_number (T.at.phase o) ≡ count_of n
   phase_is o k n on cap c = let q : length k.queue ≡ 0 = ap length (T.channels.unbuffered o k on cap).0 in omega arith
 
-  -- where the phase says that there is no offer, no holder has one
+  -- if the phase shows no offer, no holder has one
   no_holder : (o : ℕ) (k : Chan) → On T.state o k → T.at.phase o ≡ Calm → (j : ℕ) (h : Holder)
       → slice_get T.state.holders j ≡ Some h → offers_on o h.offer ≡ false
   no_holder o k on calm j h there = by y.0.post refl

@@ -1,4 +1,4 @@
--- The region machine's steps of offers, and of two that meet, computed forward.
+-- The region machine's steps of offers, and of two that meet, computed forward, test by test as in `Forward`.
 use Rattle.std.proofs.Common.{◌≡◌, ◌≢◌, ℕ, suc, ◌+◌, ◌==◌, Bool, true, false, not, ◌&&◌, ◌||◌, List, [], ◌∷◌, ◌++◌, map, Some, None}
 use Rattle.std.proofs.Common.{refl, ap, sym, ◌∙◌, slice_get, slice_set, if◌then◌else◌, option_and_then}
 use Rattle.std.specs.List.{list_any}
@@ -49,7 +49,7 @@ none_there o (h ∷ hs) each =
 
 module _ (code : Code) (page_words : ℕ) (s : RegionState) (o : ℕ) (running : s.plain.ended ≡ None)
     (live : may_touch s (Some o) ≡ true) where
-  -- an offer is put up
+  -- an offer is made
   pub offers : (g : ℕ) (v : Value) (n : Next code s g Send (value.Object o ∷ v ∷ []))
       → may_go n.holder.offer ≡ true → is_meeting_at (slice_get s.plain.memory.heap o) ≡ true
       → list_any (λ (k : Holder). offers_on o k.offer) s.holders ≡ false
@@ -72,7 +72,7 @@ module _ (code : Code) (page_words : ℕ) (s : RegionState) (o : ℕ) (running :
       ap (option_and_then (λ (h : Holder). acknowledge s g h h.offer)) there ∙ ap (acknowledge s g h) taken
       ∙ ap (λ b. if b then Some (attended s g (record h { offer = NoOffer })) else None) live
 
-  -- what one side owes afterwards
+  -- the duties of one side afterwards
   side_is : (g : ℕ) (action : Action) (operands : List Value) (n : Next code s g action operands) (after : List TacFrame)
       → side_after code n.holder (frames_of s.plain g) after
       ≡ record n.holder { duties = map Remove n.before.removes ++ next_duties code after }

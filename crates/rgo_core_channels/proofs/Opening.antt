@@ -1,4 +1,4 @@
--- The opening is an image.
+-- The first state has an image: it has no channel, so only the one record is to be compared with the one holder.
 use Rattle.std.proofs.Common.{◌≡◌, ℕ, zero, suc, [], ◌∷◌, Some, slice_get, refl, ap, sym, subst, ◌∙◌}
 use Rattle.std.proofs.lemmas.Option.{same_Some}
 use Rattle.rgo_sound.specs.RegionMachine.Machine.{region_start}

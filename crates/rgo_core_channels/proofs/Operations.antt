@@ -1,4 +1,4 @@
--- What operations do to a channel, by its capacity, its queue and whether it is closed.
+-- What operations do to a channel, by its capacity, its queue and whether it is closed: the definitions of rgo_memory, case by case.
 use Rattle.std.proofs.Common.{◌≡◌, ℕ, ◌<◌, ◌≤◌, true, false, List, [], ◌∷◌, length, Some, None}
 use Rattle.std.proofs.Common.{ap, sym, ◌∙◌, nat_lt, if◌then◌else◌, arith}
 use Rattle.std.proofs.lemmas.Bool.Decides.{nat_tests}

@@ -1,4 +1,5 @@
--- Where the memory of a table has the words of channels, and how a page number leads to a cell.
+-- Where the memory of a table has the words of channels, and how a page number leads to a cell. A channel is an object, so its words
+-- are those of the image of memory. Left is the arithmetic of spread ones: cell i is word i + 2.
 use Rattle.std.proofs.Common.{◌≡◌, ℕ, zero, suc, ◌+◌, ◌-◌, ◌*◌, ◌/◌, ◌%◌, ◌<◌, ◌≤◌, Bool, false, true, List, length, max, if◌then◌else◌}
 use Rattle.std.proofs.Common.{Option, None, Some, slice_get, slice_index, refl, ap, sym, subst, ◌∙◌, arith}
 use Rattle.std.proofs.Math.Nat.{div-mul-le_self}
@@ -71,7 +72,7 @@ module _ (z : TableSizes) (words : List ℕ) (recs : List MemoryRec) (s : Region
         let w = M.shows.wide in
         omega (arith, a, w)
 
-    -- words are larger than nothing
+    -- a page has at least one word
     some_page : 0 < z.page_words
     some_page =
         let e = some_extent k.capacity in
@@ -93,7 +94,7 @@ module _ (z : TableSizes) (words : List ℕ) (recs : List MemoryRec) (s : Region
         omega (arith, a))
         (λ whole. row_is i whole (omega (arith, l)))
 
-    -- page numbers lie in the table
+    -- page numbers are in the table
     number_low : (j : ℕ) → spreads z.page_words k.capacity ≡ true → j < data_pages z.page_words (channel k)
         → place_at z places o + 2 + j < length words
     number_low j sp l =

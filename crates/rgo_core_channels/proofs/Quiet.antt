@@ -1,4 +1,4 @@
--- An end that is marked, and words that no channel has, leave the image of channels.
+-- An end that is marked, and words that no channel has, leave the image of channels: no field reads either.
 use Rattle.std.proofs.Common.{◌≡◌, ◌≢◌, ℕ, suc, ◌+◌, ◌<◌, List, [], ◌∷◌, Option, slice_set, slice_index, refl, subst, ◌∙◌, arith}
 use Rattle.std.proofs.Math.ListN.{length-set}
 use Rattle.std.proofs.lemmas.List.{get_or-set_other}
@@ -18,7 +18,7 @@ use Rattle.rgo_core_channels.proofs.Steps.{at_same, next_same, place_in}
 
 module _ (code : Code) (page_words : ℕ) (encode : Value → ℕ) (place : ℕ → ℕ) (cell : ℕ → ℕ → ℕ) (words : List ℕ) (recs : List ChannelRec) (s : RegionState)
     (at : Places) (K : Channels code page_words encode place cell words recs s at) where
-  -- the state that is like s but for its end, its mark and its number of steps
+  -- the state that is like s except for its end, its mark and its number of steps
   abbrev pub marked_state : Option End → Option Mark → ℕ → RegionState
   marked_state ended mark steps = record s { plain = record s.plain { ended = ended }; steps = steps; mark = mark }
 

@@ -1,4 +1,5 @@
--- Channels that no goroutine uses: two values in a buffer for three, and in one for five that is spread.
+-- Channels that no goroutine uses: two values in a buffer for three, and in one for five that is spread. They show that the image can
+-- hold at all, and where the words of each form are.
 use Rattle.std.proofs.Common.{◌≡◌, ℕ, zero, suc, ◌+◌, ◌-◌, ◌<◌, ◌≤◌, false, true, List, [], ◌∷◌, length, Some, None, slice_get, slice_index, nat_lt, if◌then◌else◌, refl, ap, sym, subst, ◌∙◌, arith}
 use Rattle.std.proofs.lemmas.Option.{same_Some}
 use Rattle.rgo_sound.specs.Memory.Memory.{Object}
@@ -38,7 +39,7 @@ module _ (code : Code) (page_words : ℕ) (encode : Value → ℕ) (cell : ℕ �
   only_one : (o : ℕ) (k : Chan) → On s o k → (o ≡ 0) × (one ≡ k)
   only_one o k on = first o k (subst (λ (l : List Object). slice_get l o ≡ Some (channel k)) heap on.0)
 
-  -- what holds of it holds of each channel
+  -- it is the only channel, so what holds of it holds of each
   of_one : (P : Chan → Type 0) → P one → (o : ℕ) (k : Chan) → On s o k → P k
   of_one P p o k on = subst P (only_one o k on).1 p
 

@@ -1,4 +1,6 @@
--- What a change of one control, of what a record knows, and of a cell under the lock, keeps.
+-- What a change of one control, of what a record knows, and of a cell under the lock, keeps. All laws follow from these three lemmas. The
+-- first has its premises in one record, so that an operation names what it changes and all other fields are proved once. For
+-- a field there are two cases: channel o and goroutine g, or others, whose words are apart.
 use Rattle.std.proofs.Common.{◌≡◌, ◌≢◌, ◌⊎◌, ℕ, zero, suc, ◌+◌, ◌<◌, ◌≤◌, true, false, List, [], ◌∷◌, length}
 use Rattle.std.proofs.Common.{Some, slice_get, slice_set, slice_index, refl, ap, sym, subst, ◌∙◌, inl, inr, ⊎_elim}
 use Rattle.std.proofs.Common.{arith}
@@ -97,7 +99,7 @@ at_same code place s b j post a same (inr p) = inr p
 
 -- ---- what records know
 
--- a record whose channel, if any, is that of its offer
+-- a record that knows of no channel but that of its offer
 pub knows_post : (post : Post) (a : ℕ)
     → KnowsOf (record { hold = Free; size = Unknown; reach = Unreached; post = post; saw = Nothing }) a → post ≡ Offering a
 knows_post post a (inl t) = absurd t.1
@@ -176,7 +178,7 @@ module _ (code : Code) (page_words : ℕ) (encode : Value → ℕ) (place : ℕ 
   pub control_in : (o : ℕ) (k : Chan) → On s o k → place o < length words
   control_in o k on = let i = K.inside o k on in omega arith
 
-  -- two offers of one goroutine are one
+  -- a goroutine has at most one offer
   pub one_offer : (o p g : ℕ) (k l : Chan) → On s o k → On s p l → OfferOf (at.phase o) g → OfferOf (at.phase p) g → o ≡ p
   one_offer o p g k l x y q r =
       let a = K.offers o g k x q in
@@ -305,7 +307,7 @@ module _ (code : Code) (page_words : ℕ) (encode : Value → ℕ) (place : ℕ 
           (λ (u : (p ≢ o) × On s p l). (l, u.1, refl))
           (on_was p l e)
 
-      -- who holds another control is another
+      -- a goroutine that has locked another channel is another one
       holder : (j p n' : ℕ) (y : ChannelRec) (l : Chan) → slice_get recs j ≡ Some y → at.lock p ≡ LockedBy j → j ≢ g → p ≢ o
       holder j p n' y l e q ne w =
           let t : at.lock o ≡ LockedBy j = ap at.lock (sym w) ∙ q in

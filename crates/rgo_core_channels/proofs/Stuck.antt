@@ -1,4 +1,6 @@
--- Where no operation is ready by the words, no pick of the three-address machine has a step.
+-- If no operation is ready by the words, no pick of the three-address machine has a step. A pick of one goroutine goes by the reason
+-- for which it waits. A pick of two that meet is the hard one: by the receiver the phase of their channel is not 1, by the sender it
+-- is not 0, and it is not 2, since the acknowledgement of that offer would be ready.
 use Rattle.std.proofs.Common.{◌≡◌, ◌≢◌, ◌⊎◌, ℕ, ◌+◌, ◌<◌, ◌≤◌, ◌==◌, Bool, true, false, List, [], ◌∷◌, length}
 use Rattle.std.proofs.Common.{Option, Some, None, slice_get, slice_index, refl, ap, sym, subst, ◌∙◌, inl, inr, arith}
 use Rattle.std.proofs.Common.{if◌then◌else◌, option_map, option_and_then, not, ◌&&◌}
@@ -33,7 +35,7 @@ use Rattle.rgo_core_channels.proofs.Forward.{stands_is, plain_is}
 use Rattle.rgo_core_channels.proofs.Operations.{send_waits, receive_waits}
 use Rattle.rgo_core_channels.proofs.Steps.{same_chan, one_place, no_buffer, count_small}
 
--- where the operation of a goroutine on channel o is not ready, by the capacity and the control
+-- the operation of a goroutine on channel o is not ready, by the capacity and the control
 pub data NotReady (code : Code) (place : ℕ → ℕ) (s : RegionState) (g : ℕ) (c : ChannelRec) (o size n : ℕ) : Type 0 where
   Full : (v : Value) → c.post ≡ Nowhere → Before code s g Send (value.Object o ∷ v ∷ []) → closed_of n ≡ 0 → 0 < size
       → count_of n ≡ size → NotReady code place s g c o size n
@@ -50,7 +52,7 @@ module _ (code : Code) (page_words : ℕ) (encode : Value → ℕ) (place : ℕ 
   abbrev m : Memory
   m = s.plain.memory
 
-  -- why a goroutine waits, by the words as they are
+  -- why a goroutine waits, by the words at this moment
   pub data Waiting (g : ℕ) (c : ChannelRec) : Type 0 where
     Gone : c.post ≡ Nowhere → slice_get s.plain.goroutines g ≡ Some [] → Waiting g c
     NilSend : (v : Value) → c.post ≡ Nowhere → Before code s g Send (value.Nil ∷ v ∷ []) → Waiting g c
@@ -150,7 +152,7 @@ module _ (code : Code) (page_words : ℕ) (encode : Value → ℕ) (place : ℕ 
 
   module _ (many : length s.plain.goroutines ≡ length recs)
       (each : (g : ℕ) (c : ChannelRec) → slice_get recs g ≡ Some c → Waiting g c) where
-    -- nobody's offer was taken: its acknowledgement would be ready
+    -- no offer was taken: its acknowledgement would be ready
     not_taken : (o j : ℕ) (k : Chan) → On s o k → at.phase o ≡ Accepted j → ⊥
     not_taken o j k on e =
         let t = K.offers o j k on (subst (λ p. OfferOf p j) (sym e) refl) in
@@ -268,7 +270,7 @@ module _ (code : Code) (page_words : ℕ) (encode : Value → ℕ) (place : ℕ 
               sender_there a b c d rs ss (AtStart x y) = refl
               sender_there a b c d rs ss Elsewhere = refl
 
-              -- a sender receives nothing
+              -- a sender does not receive
               sender_first : (d v : Value) (st : Before code s r Send (d ∷ v ∷ [])) (g : List TacFrame)
                   → met_by (tac (erased code)) s.plain r t (st.frame ∷ st.callers) g ≡ None
               sender_first d v st [] = refl
@@ -278,7 +280,7 @@ module _ (code : Code) (page_words : ℕ) (encode : Value → ℕ) (place : ℕ 
                   ∙ sender_there d v st.instr.place (frame_after_instr st.frame st.to value.Nil) st.callers ss
                   (tac_stand (erased code) h)
 
-              -- a receiver that stands before another goroutine
+              -- a receiver with the other goroutine, by what that one is at
               receiver_first : (d : Value) (st : Before code s r Recv (d ∷ [])) (h : TacFrame) (ss : List TacFrame)
                   (q : Stand TacFrame) → tac_stand (erased code) h ≡ q
                   → met_by (tac (erased code)) s.plain r t (st.frame ∷ st.callers) (h ∷ ss)

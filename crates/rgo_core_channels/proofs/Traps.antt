@@ -1,4 +1,5 @@
--- Traps at channels are what the region machine does there.
+-- Traps at channels are what the region machine does there. The image stays, since a trap leaves channels, frames and holders. It is the
+-- sender with an offer that needs the image: its channel is closed and its offer was not taken, so in the state it is still at its send.
 use Rattle.std.proofs.Common.{◌≡◌, ℕ, ◌+◌, true, [], ◌∷◌, Some, None, slice_get, refl, ap, sym}
 use Rattle.std.proofs.Common.{subst, ◌∙◌, inl, inr, ⊎_elim, option_map}
 use Rattle.std.proofs.lemmas.Option.{same_Some}

@@ -1,4 +1,5 @@
--- Channels after an operation, and states of the region machine after an event at a channel.
+-- Channels after an operation, and states of the region machine after an event at a channel. They are written out, so that the images
+-- of memory and of frames can be proved about the same state.
 use Rattle.std.specs.Prelude.{ℕ, ◌+◌, List, ◌∷◌, [], ◌++◌, Some, None, true, false, slice_set}
 use Rattle.rgo_sound.specs.Typed.declared.actions.Action.{Action}
 use Rattle.rgo_sound.specs.Typed.declared.actions.Action.TheVariants.{Recv, Send}
@@ -13,7 +14,7 @@ use Rattle.rgo_sound.specs.RegionMachine.States.{Taken, RegionState}
 use Rattle.rgo_core_channels.specs.Channels.{Chan}
 use Rattle.rgo_core_channels.specs.Standing.{Next, passed_frames, passed_holder}
 
--- one value more; only an open channel takes one
+-- One value more. Only an open channel takes one, so `closed` is false without a test.
 abbrev pub pushed : Value → Chan → Chan
 pushed v k = record { capacity = k.capacity; queue = k.queue ++ v ∷ []; closed = false }
 
@@ -23,7 +24,7 @@ popped k queue = record k { queue = queue }
 abbrev pub closed_now : Chan → Chan
 closed_now k = record k { closed = true }
 
--- the instruction of one goroutine has left this memory and given this value
+-- the state after the instruction of one goroutine, with this memory and this value
 abbrev pub after : {code : Code} {s : RegionState} {g : ℕ} {action : Action} {operands : List Value}
     → Next code s g action operands → Memory → Value → RegionState
 after {s = s} {g = g} n m v = record s {
@@ -39,7 +40,7 @@ after_trap s trap at = record s {
   mark = mark_with_end s.mark (Some (the_end.Trap trap at));
 }
 
--- a receiver has taken the offer of a sender
+-- A receiver has taken the offer of a sender. One instruction is counted, for both.
 abbrev pub after_meeting : {code : Code} {s : RegionState} {r t : ℕ} {taken sent : List Value} → (o : ℕ)
     → Next code s r Recv taken → Next code s t Send sent → Value → RegionState
 after_meeting {s = s} {r = r} {t = t} o n k v = record s {

@@ -1,5 +1,6 @@
 -- The store to a control that makes an operation of one goroutine take effect, and unlocks the channel: a send into a buffer, a
--- receive from one, a receive from a closed channel, a close. Each is an instruction of the region machine.
+-- receive from one, a receive from a closed channel, a close. Each is an instruction of the region machine. The control that was
+-- found when the channel was locked decides which one, since nobody has changed it under the lock.
 use Rattle.std.specs.Prelude.{◌≡◌, ◌⊎◌, ℕ, ◌+◌, ◌-◌, ◌%◌, ◌<◌, List, [], ◌∷◌, Some}
 use Rattle.rgo_sound.specs.Typed.declared.actions.Action.TheVariants.{Recv, Send, Close}
 use Rattle.rgo_sound.specs.Memory.Channels.{close, receive, send}
@@ -16,7 +17,8 @@ use Rattle.rgo_core_channels.specs.Moments.{Gains, Law}
 use Rattle.rgo_core_channels.specs.Records.{Locked, Nowhere, Read, Sized, Wrote, at_rest}
 use Rattle.rgo_core_channels.specs.Standing.{Next, blank_of}
 
--- a send into a buffer that has room, after the value was stored in the first cell that is free
+-- A send into a buffer that has room, after the value was stored in the first cell that is free. In this order a receiver that finds the
+-- higher count also finds the value.
 abbrev pub SendLaw : Type 0
 SendLaw = Law (λ T g c. (o n i x size : ℕ) (v : Value) (next : Next T.code T.state g Send (value.Object o ∷ v ∷ []))
     → c.hold ≡ Wrote (T.place o) n i x → T.encode v ≡ x → c.post ≡ Nowhere → c.size ≡ Sized (T.place o) size
@@ -27,7 +29,7 @@ SendLaw = Law (λ T g c. (o n i x size : ℕ) (v : Value) (next : Next T.code T.
     × Gains T g (T.place o) (n + 4) at_rest (Instruct (One g))
     (after next (with_object T.state.plain.memory o (channel (pushed v k))) value.Nil))
 
--- a receive of the oldest value, which is the word that was loaded
+-- a receive of the oldest value, which is the word that was loaded under the lock
 abbrev pub ReceiveLaw : Type 0
 ReceiveLaw = Law (λ T g c. (o n i x size : ℕ) (next : Next T.code T.state g Recv (value.Object o ∷ []))
     → c.hold ≡ Read (T.place o) n i x → c.post ≡ Nowhere → c.size ≡ Sized (T.place o) size → 0 < count_of n
@@ -38,7 +40,8 @@ ReceiveLaw = Law (λ T g c. (o n i x size : ℕ) (next : Next T.code T.state g R
     × Gains T g (T.place o) (control (closed_of n) (count_of n - 1) ((head_of n + 1) % size)) at_rest
     (Instruct (One g)) (after next (with_object T.state.plain.memory o (channel (popped k queue))) v))
 
--- a receive from a closed channel in which nothing is left: its value is the zero of the type
+-- A receive from a closed channel in which nothing is left: its value is the zero of the type. The control is stored as it was, which
+-- only unlocks.
 abbrev pub ZeroLaw : Type 0
 ZeroLaw = Law (λ T g c. (o n size : ℕ) (next : Next T.code T.state g Recv (value.Object o ∷ []))
     → c.hold ≡ Locked (T.place o) n → c.post ≡ Nowhere → c.size ≡ Sized (T.place o) size → closed_of n ≡ 1

@@ -1,5 +1,6 @@
--- The control of a channel, its first word: bit 0 is the lock, bit 1 says that it is closed. Then come 30 bits for the number of
--- values, or for the phase of a channel without a buffer, and the cell of the oldest value.
+-- The control of a channel, its first word: bit 0 is the lock, bit 1 is set if it is closed. Then come 30 bits for the number of
+-- values, or for the phase of a channel without a buffer, and the cell of the oldest value. It is one word because an operation has to
+-- find all of them at one moment.
 use Rattle.std.specs.Prelude.{ℕ, ◌+◌, ◌*◌, ◌/◌, ◌%◌, Bool, true, false, [], max, if◌then◌else◌}
 use Rattle.rgo_sound.specs.Memory.Memory.{Channel}
 use Rattle.rgo_sound.specs.RegionMachine.Objects.{data_pages, is_spread}
@@ -8,7 +9,7 @@ abbrev pub bit : Bool → ℕ
 bit true = 1
 bit false = 0
 
--- of a channel that is not locked
+-- The control of a channel that is not locked. With the lock it is 1 more, so locking and unlocking keep all else.
 abbrev pub control : (closed count head : ℕ) → ℕ
 control closed count head = 2 * closed + 4 * count + 4294967296 * head
 
@@ -29,7 +30,7 @@ extent capacity = max 1 capacity
 abbrev pub spreads : (page_words capacity : ℕ) → Bool
 spreads page_words capacity = is_spread page_words (Channel capacity [] false)
 
--- how many words follow the capacity in the same page: the cells; of a spread channel, the numbers of its data pages
+-- how many words follow the capacity in the same page: the cells, or the numbers of the data pages if the channel is spread
 abbrev pub tail_words : (page_words capacity : ℕ) → ℕ
 tail_words page_words capacity =
     if spreads page_words capacity then data_pages page_words (Channel capacity [] false) else extent capacity

@@ -1,4 +1,5 @@
--- Goroutines none of which can continue, as their records and the words say.
+-- Goroutines none of which can continue, by their records and the words. It is about one state: that each goroutine found its words at
+-- another moment is a matter of passes (rgo_core_rule).
 use Rattle.std.specs.Prelude.{◌≡◌, ◌≢◌, ℕ, ◌+◌, ◌%◌, ◌<◌, [], ◌∷◌, Some, slice_get, slice_index}
 use Rattle.rgo_sound.specs.Typed.declared.actions.Action.TheVariants.{Recv, Send}
 use Rattle.rgo_sound.specs.Memory.declared.values.Value.{Value}
@@ -21,7 +22,8 @@ capacity_at T o = slice_index T.words (T.place o + 1)
 
 -- Why goroutine g, whose record is c, does nothing: it has returned; its operation is on nil; the channel is full, or has an
 -- offer already; it is empty, or has no offer that could be taken; the goroutine's own offer is not taken; or the control is
--- locked.
+-- locked. A locked control counts as blocked, since the goroutine that found it has changed nothing. The law excludes it: if no record
+-- has a lock, no control is locked.
 pub data Blocked (T : Moment) (g : ℕ) (c : ChannelRec) : Type 0 where
   Returned : c.post ≡ Nowhere → slice_get T.state.plain.goroutines g ≡ Some [] → Blocked T g c
   SendsOnNil : (v : Value) → c.post ≡ Nowhere → Before T.code T.state g Send (value.Nil ∷ v ∷ []) → Blocked T g c
@@ -38,8 +40,8 @@ pub data Blocked (T : Moment) (g : ℕ) (c : ChannelRec) : Type 0 where
       → count_of (slice_index T.words a) ≡ 1 → Blocked T g c
   IsLocked : (a : ℕ) → IsAt T.code T.place T.state g c.post a → slice_index T.words a % 2 ≡ 1 → Blocked T g c
 
--- If each goroutine is blocked and none has locked a channel, the state is a deadlock. That all this was so at one moment is for
--- the rule to say: no access of a pass changed a word.
+-- If each goroutine is blocked and none has locked a channel, the state is a deadlock. That all this was so at one moment follows from
+-- the rule of the table: no access of a pass has changed a word.
 abbrev pub DeadlockLaw : Type 0
 DeadlockLaw = (T : Moment)
     → ((g : ℕ) (c : ChannelRec) → slice_get T.recs g ≡ Some c → (c.hold ≡ Free) × Blocked T g c)

@@ -1,4 +1,5 @@
--- Steps of other kinds: what they have to leave of channels, and how a channel or a goroutine more joins the image.
+-- Steps of other kinds: what they have to leave of channels, and how a new channel or goroutine joins the image. The crate that puts
+-- the images together shows this once for each kind of step.
 use Rattle.std.specs.Prelude.{◌≡◌, ◌≢◌, ◌⊎◌, ℕ, ◌+◌, ◌<◌, ◌≤◌, false, List, [], ◌∷◌, ◌++◌, length, replicate, Option, Some, None, slice_get}
 use Rattle.std.specs.Prelude.{slice_index, slice_set}
 use Rattle.rgo_sound.specs.Typed.declared.actions.Action.TheVariants.{Send}
@@ -15,8 +16,9 @@ use Rattle.rgo_core_channels.specs.Moments.{Moment}
 use Rattle.rgo_core_channels.specs.Records.{ChannelRec, at_rest}
 use Rattle.rgo_core_channels.specs.Standing.{Next}
 
--- Other words, another state, another layout and encoding. Channels lie where they lay, with the words that they had; values in
--- them are encoded as they were; regions may have been removed, and this many goroutines have started.
+-- Other words, another state, another layout and encoding. Channels are where they were, with the same words; values in
+-- them are encoded as before; regions may have been removed, and this many goroutines have started. The layout changes when an object
+-- is made, since it is a function of all objects.
 pub record LeavesChannels (T : Moment) (words : List ℕ) (s : RegionState) (encode : Value → ℕ) (place : ℕ → ℕ)
     (cell : ℕ → ℕ → ℕ) (at : Places) (IsNew : ℕ → Chan → Type 0) (children : ℕ) : Type 0 where
   pub long : length words ≡ length T.words
@@ -31,10 +33,11 @@ pub record LeavesChannels (T : Moment) (words : List ℕ) (s : RegionState) (enc
   pub codes : (o i : ℕ) (v : Value) (k : Chan) → On T.state o k → slice_get k.queue i ≡ Some v
       → encode v ≡ T.encode v
   pub sent : (o j : ℕ) (v : Value) → Next T.code T.state j Send (value.Object o ∷ v ∷ []) → encode v ≡ T.encode v
-  -- a goroutine that has started has no offer
+  -- a new goroutine has no offer
   pub born : length s.holders ≡ length T.state.holders + children
   pub born_calm : (j : ℕ) (h : Holder) → length T.state.holders ≤ j → slice_get s.holders j ≡ Some h → h.offer ≡ NoOffer
-  -- what is new is open and empty, and apart from all that there was
+  -- A new channel is open and empty, and its words are apart from those of all others. Its words were stored before this step, as
+  -- those of every new object.
   pub fresh : (o : ℕ) (k : Chan) → IsNew o k → (k.queue ≡ []) × (k.closed ≡ false) × (at.head o ≡ 0)
       × (at.lock o ≡ Unlocked) × (at.phase o ≡ Calm)
   pub fresh_words : (o : ℕ) (k : Chan) → IsNew o k → (slice_index words (place o) ≡ 0)
@@ -53,8 +56,8 @@ abbrev pub IsMade : Option (ℕ × ℕ) → ℕ → Chan → Type 0
 IsMade None o k = ⊥
 IsMade (Some made) o k = (o ≡ made.0) × (k ≡ record { capacity = made.1; queue = []; closed = false })
 
--- A step of one goroutine that concerns no offer, and whose record knows nothing of channels. That the others continue as they
--- were, and that the channels of which they know are not gone, is region safety's.
+-- A step of one goroutine that concerns no offer, and whose record knows nothing of channels. That the others are as before, and that the
+-- channels of which they know are still live, follows from region safety.
 abbrev pub EventLaw : Type 0
 EventLaw = (T : Moment) (g : ℕ) (event : Event) (words : List ℕ) (s : RegionState) (encode : Value → ℕ) (place : ℕ → ℕ)
     (cell : ℕ → ℕ → ℕ) (at : Places) (made : Option (ℕ × ℕ)) (children : ℕ) → slice_get T.recs g ≡ Some at_rest
@@ -63,13 +66,13 @@ EventLaw = (T : Moment) (g : ℕ) (event : Event) (words : List ℕ) (s : Region
     → LeavesChannels T words s encode place cell at (IsMade made) children
     → Channels T.code T.page_words encode place cell words (T.recs ++ replicate children at_rest) s at
 
--- the end of a run is a mark
+-- the end of a run is a mark in the state, which no channel's word shows
 abbrev pub FinishKeeps : Type 0
 FinishKeeps = (code : Code) (page_words : ℕ) (encode : Value → ℕ) (place : ℕ → ℕ) (cell : ℕ → ℕ → ℕ) (words : List ℕ)
     (recs : List ChannelRec) (s : RegionState) (at : Places) (limit : Limit) → Channels code page_words encode place cell words recs s at
     → Channels code page_words encode place cell words recs (finished s limit) at
 
--- a word may be written that no channel has
+-- A word that no channel has may be written. The premise is about every channel, since the writer does not know which exist.
 abbrev pub ForeignWordKeeps : Type 0
 ForeignWordKeeps = (code : Code) (page_words : ℕ) (encode : Value → ℕ) (place : ℕ → ℕ) (cell : ℕ → ℕ → ℕ) (words : List ℕ)
     (recs : List ChannelRec) (s : RegionState) (at : Places) (i x : ℕ)

@@ -142,7 +142,7 @@ pub record ChannelExamples : Type 0 where
   -- ---- images
   pub shown : RingIsShown
   pub long_shown : LongIsShown
-  -- a record cannot have locked a channel where there is none, nor words show another capacity or another lock; and the cells of
+  -- a record cannot have locked a channel that does not exist, nor can words show another capacity or another lock; and the cells of
   -- a channel in a page are nowhere else
   pub no_channel : (code : Code) (page_words : ℕ) (encode : Value → ℕ) (place : ℕ → ℕ) (cell : ℕ → ℕ → ℕ)
       (words : List ℕ) (at : Places)

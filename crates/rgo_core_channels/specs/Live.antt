@@ -1,4 +1,5 @@
--- What a goroutine's next operation, and its offer, say of a channel: it is one, in a live region. This follows from region safety.
+-- What follows from a goroutine's next operation, and from its offer: the object is a channel, in a live region. By region safety a
+-- goroutine has a stake in the region of what it uses, so no other goroutine can remove it.
 use Rattle.std.specs.Prelude.{◌≡◌, ℕ, true, List, ◌∷◌, Some, slice_get}
 use Rattle.rgo_sound.specs.Typed.declared.actions.Action.{Action}
 use Rattle.rgo_sound.specs.Memory.declared.values.Value.{Value}
@@ -11,7 +12,7 @@ use Rattle.rgo_sound.specs.Good.{AllGood}
 use Rattle.rgo_core_channels.specs.Channels.{Chan, On}
 use Rattle.rgo_core_channels.specs.Standing.{IsOfChannel, Next}
 
--- an operation on an object is one on a channel in a live region
+-- The object of an operation is a channel in a live region. Without this the words there could be those of anything.
 abbrev pub OperandIsLive : Type 0
 OperandIsLive = (code : Code) (s : RegionState) (g : ℕ) (action : Action) (o : ℕ) (vs : List Value) → IsChecked code
     → AllGood code s → IsOfChannel action → Next code s g action (value.Object o ∷ vs) → (k : Chan) × On s o k

@@ -1,4 +1,5 @@
--- What a law is about: one moment of a table, the goroutine that makes an access, and its record.
+-- What a law is about: one moment of a table, the goroutine that makes an access, and its record. Laws hold at every moment at which
+-- the record is this one, since others may have made any accesses before.
 use Rattle.std.specs.Prelude.{◌≡◌, ℕ, List, Some, slice_get, slice_set, slice_index}
 use Rattle.rgo_sound.specs.Memory.declared.traps.Trap.{Trap}
 use Rattle.rgo_sound.specs.Memory.declared.values.Value.{Value}
@@ -14,7 +15,7 @@ use Rattle.rgo_core_channels.specs.After.{after_trap}
 use Rattle.rgo_core_channels.specs.Channels.{Channels, Places}
 use Rattle.rgo_core_channels.specs.Records.{ChannelRec}
 
--- a state of the region machine on checked code, in which all is as region safety says; and words and records that are its image
+-- a state of the region machine on checked code, with the invariant of region safety; and words and records that are its image
 pub record Moment : Type 0 where
   pub code : Code
   pub page_words : ℕ

@@ -1,4 +1,4 @@
--- At the start no channel exists, and the first goroutine's record knows nothing of channels.
+-- At the start no channel exists, and the first goroutine's record knows nothing of channels. So the image is empty.
 use Rattle.std.specs.Prelude.{ℕ, List, [], ◌∷◌}
 use Rattle.rgo_sound.specs.Memory.declared.values.Value.{Value}
 use Rattle.rgo_sound.specs.Code.Code.{Code}
@@ -6,7 +6,7 @@ use Rattle.rgo_sound.specs.RegionMachine.Machine.{region_start}
 use Rattle.rgo_core_channels.specs.Channels.{Channels, Places}
 use Rattle.rgo_core_channels.specs.Records.{at_rest}
 
--- whatever the words are
+-- it holds whatever the words are
 abbrev pub ChannelsOpen : Type 0
 ChannelsOpen = (code : Code) (page_words : ℕ) (encode : Value → ℕ) (place : ℕ → ℕ) (cell : ℕ → ℕ → ℕ)
     (words : List ℕ) (at : Places)

@@ -1,4 +1,5 @@
--- Where the words of channels are by the memory of a table, and how a page number leads to a cell.
+-- Where the words of channels are by the memory of a table, and how a page number leads to a cell. The image of channels is about any
+-- layout. Here it gets the one of rgo_core_memory.
 use Rattle.std.specs.Prelude.{◌≡◌, ℕ, ◌+◌, ◌-◌, ◌/◌, ◌%◌, ◌<◌, ◌≤◌, false, true, List, length, slice_index}
 use Rattle.rgo_sound.specs.RegionMachine.States.{RegionState}
 use Rattle.rgo_core_memory.specs.declared.layout.TableSizes.{TableSizes}
@@ -33,7 +34,7 @@ pub record Layout (z : TableSizes) (words : List ℕ) (s : RegionState) (places 
       → word_of_channel (place_at z places) (cell_place z places) o i ≡ word_of_channel (place_at z places) (cell_place z places) p j
       → (o ≡ p) × (i ≡ j)
 
--- they are so in each table
+-- each table has them so
 abbrev pub LayoutLaw : Type 0
 LayoutLaw = (z : TableSizes) (words : List ℕ) (recs : List MemoryRec) (s : RegionState) (places : Where)
     → StateImage z words recs s places → Layout z words s places
@@ -45,7 +46,7 @@ pub record PositionsAgree (T : Moment) (z : TableSizes) (recs : List MemoryRec) 
   pub cell : (o i : ℕ) (k : Chan) → On T.state o k → i < extent k.capacity → T.cell o i ≡ cell_place z places o i
 
 -- The number of a data page, plus 1, is loaded from the lead page of a spread channel. By it the record finds a cell: its word is
--- one of that page, and of the table.
+-- one of that page, and of the table. No lock is needed, since page numbers never change.
 abbrev pub PageNumberLaw : Type 0
 PageNumberLaw = Law (λ T g c. (z : TableSizes) (recs : List MemoryRec) (places : Where) (a i size : ℕ)
     → PositionsAgree T z recs places → c.size ≡ Sized a size → spreads z.page_words size ≡ true → i < extent size

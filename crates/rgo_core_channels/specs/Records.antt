@@ -1,9 +1,10 @@
--- What the record of a goroutine has of channels. A channel goes by the word of its control.
+-- What the record of a goroutine has of channels. A channel is named by the word of its control, since code knows addresses and no
+-- numbers of objects. It is the memory of an operation between its accesses, and is empty between operations, except for an offer.
 use Rattle.std.specs.Prelude.{◌≡◌, ◌⊎◌, ℕ, ◌==◌, ◌&&◌, if◌then◌else◌}
 use Rattle.rgo_core_channels.specs.Controls.{closed_of, count_of}
 
 -- The channel that it has locked, with the control that it found there; and a value that it has then stored in a cell, or has
--- loaded from one.
+-- loaded from one. A goroutine locks one channel at a time.
 pub data Hold : Type 0 where
   Free : Hold
   Locked : (at found : ℕ) → Hold
@@ -25,7 +26,8 @@ pub data Post : Type 0 where
   Nowhere : Post
   Offering : (at : ℕ) → Post
 
--- a channel that it has found closed; or found closed while its own offer is there, which nobody can take any more
+-- A channel that it has found closed; or found closed while its own offer is there, which nobody can take any more. Both stay true, so
+-- they may be kept until the trap.
 pub data Saw : Type 0 where
   Nothing : Saw
   Shut : (at : ℕ) → Saw
@@ -58,13 +60,13 @@ KnowsOf c a = ((n : ℕ) × HoldsAt c.hold a n) ⊎ (((n : ℕ) × (c.size ≡ S
     ⊎ ((c.saw ≡ Shut a) ⊎ ((c.saw ≡ Stranded a) ⊎ ((c.post ≡ Offering a)
     ⊎ ((i : ℕ) × (w : ℕ) × (c.reach ≡ Reached a i w))))))
 
--- ---- what steps do to a record
+-- ---- the record after an access, by what the access has found
 
--- it knows nothing of channels: so it is whenever its goroutine is not at an operation on one
+-- It knows nothing of channels. This is the record of a goroutine that is not at an operation on one, as `knows` in the image requires.
 abbrev pub at_rest : ChannelRec
 at_rest = record { hold = Free; size = Unknown; reach = Unreached; post = Nowhere; saw = Nothing }
 
--- its offer is there
+-- its offer is there: all else is forgotten, and is loaded again when the goroutine looks after its offer
 abbrev pub offering_record : ℕ → ChannelRec
 offering_record a = record { hold = Free; size = Unknown; reach = Unreached; post = Offering a; saw = Nothing }
 

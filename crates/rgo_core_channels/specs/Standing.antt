@@ -1,4 +1,5 @@
--- A goroutine that is about to perform an action and owes nothing before it.
+-- A goroutine that is about to perform an action and owes nothing before it. No other goroutine can change this, except a receiver that
+-- takes its offer.
 use Rattle.std.specs.Prelude.{◌≡◌, ◌⊎◌, ℕ, List, [], ◌∷◌, ◌++◌, map, Some, slice_get}
 use Rattle.rgo_sound.specs.Typed.declared.actions.Action.{Action}
 use Rattle.rgo_sound.specs.Typed.declared.actions.Action.TheVariants.{Recv, Send, Close}
@@ -29,20 +30,20 @@ OperatesOn code s g o =
     (action : Action) × IsOfChannel action × (vs : List Value) × Next code s g action (value.Object o ∷ vs)
 
 -- A goroutine is at the channel of that word: it is about to perform an operation on it; or, by its record, its offer is there or
--- stood there. A sender whose offer was taken is past its send in the state, but not in its record.
+-- was taken there. A sender whose offer was taken is past its send in the state, but not in its record.
 abbrev pub IsAt : (code : Code) (place : ℕ → ℕ) → RegionState → ℕ → Post → ℕ → Type 0
 IsAt code place s g post a =
     ((post ≡ Nowhere) × (o : ℕ) × (place o ≡ a) × OperatesOn code s g o) ⊎ (post ≡ Offering a)
 
 -- ---- what the instruction leaves
 
--- the zero of its value
+-- the zero of the type of its value
 abbrev pub blank_of : {code : Code} {s : RegionState} {g : ℕ} {action : Action} {operands : List Value}
     → Before code s g action operands → Value
 blank_of {code} b = zero_of (destination_type (erased code) b.frame b.to)
 
 module _ {code : Code} {s : RegionState} {g : ℕ} {action : Action} {operands : List Value} where
-  -- the goroutine's frames when the instruction has given this value
+  -- the goroutine's frames after an instruction with this value
   abbrev pub passed_frames : Next code s g action operands → Value → List TacFrame
   passed_frames n v = frame_after_instr n.before.frame n.before.to v ∷ n.before.callers
 

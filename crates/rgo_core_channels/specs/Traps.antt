@@ -1,4 +1,5 @@
--- Traps at channels: a send on a closed channel, and a close of one that is closed or nil.
+-- Traps at channels: a send on a closed channel, and a close of one that is closed or nil. No word of a channel changes: the trap itself
+-- is an access to the clock. That the channel was found closed may be long ago, since it stays closed.
 use Rattle.std.specs.Prelude.{◌≡◌, ◌⊎◌, ℕ, [], ◌∷◌}
 use Rattle.rgo_sound.specs.Typed.declared.actions.Action.TheVariants.{Send, Close}
 use Rattle.rgo_sound.specs.Memory.declared.traps.Trap.TheVariants.{SendClosed, CloseClosed, CloseNil}
@@ -8,7 +9,7 @@ use Rattle.rgo_core_channels.specs.Moments.{Law, GoroutineTraps}
 use Rattle.rgo_core_channels.specs.Records.{Nowhere, Shut, Stranded}
 use Rattle.rgo_core_channels.specs.Standing.{Next}
 
--- a send on a channel that was found closed, or with an offer at one that was not taken
+-- a send on a channel that was found closed, or a send whose offer was not taken before the close
 abbrev pub SendTrapLaw : Type 0
 SendTrapLaw = Law (λ T g c. (o : ℕ) (v : Value) (next : Next T.code T.state g Send (value.Object o ∷ v ∷ []))
     → ((c.post ≡ Nowhere) × (c.saw ≡ Shut (T.place o))) ⊎ (c.saw ≡ Stranded (T.place o))

@@ -6,8 +6,9 @@
 //! A channel that does not fit a page is spread: its cells are words of data pages, whose numbers follow the capacity. Before
 //! an access to such a cell the operation loads the number of its page.
 //!
-//! Each law of [`laws`] is about one state, and computes the region machine's step; that the channel is in a live region
-//! follows from region safety. [`controls`] reads and makes controls. Why: docs/DECISIONS.md, "Operations on channels".
+//! Each law of [`laws`] is about one state, and computes the region machine's step, so that the other images can be proved of the
+//! same state. That the channel is in a live region follows from region safety. [`controls`] reads and makes controls. Why:
+//! docs/DECISIONS.md, "Operations on channels".
 #![tactic(auto)]
 
 pub mod controls;

@@ -1,4 +1,5 @@
--- `main` protects nothing since its start: it is so at the start of a run, and each step keeps it.
+-- `main` protects nothing since its start: it is so at the start of a run, and each step keeps it. By cases over events: only a start
+-- makes a base, and that of another goroutine.
 use Rattle.std.proofs.Common.{◌≡◌, ◌∙◌, ℕ, zero, suc, List, [], ◌∷◌, Option, Some, None, option_and_then, slice_get, slice_set, refl, sym, ap, subst, arith}
 use Rattle.std.proofs.lemmas.Option.{same_Some, slice_get_within}
 use Rattle.rgo_sound.specs.Code.Code.{Branch, Call, Code, CodeOp, Do, Go, Jump, Print, Return}

@@ -1,4 +1,5 @@
--- What the first duty of a goroutine refers to.
+-- What the first duty of a goroutine refers to. The invariant of region safety walks through all duties; its first step is this. What it
+-- says of regions is carried to slots.
 use Rattle.std.proofs.Common.{◌≡◌, ⊎_elim, ◌∙◌, ◌≤◌, ◌+◌, ◌||◌, ℕ, Bool, true, false, List, [], ◌∷◌, map, Some, slice_get, refl, sym, ap, subst, arith}
 use Rattle.std.specs.List.{list_any}
 use Rattle.rgo_core.proofs.Frames.regions.SlotLemmas.{ends_slot}
@@ -23,7 +24,7 @@ use Rattle.rgo_core_facts.proofs.ControlSlots.{any_slotted, bound_slotted, unbou
 use Rattle.rgo_core_facts.proofs.ControlUnprotects.{UnprotectsFit, ends_protections, top_protections}
 use Rattle.rgo_core_facts.proofs.ControlView.{Past, Shown, fitted, good_holder}
 
--- what is counted, is in the list
+-- what is counted is in the list
 times_any : (r : Region) (rs : List Region) → 1 ≤ times r rs → list_any (same_region r) rs ≡ true
 times_any r [] l = absurd (omega (arith, l))
 times_any r (s ∷ rs) l = go (same_region r s) l (times_any r rs)
@@ -59,7 +60,7 @@ module _ {T : Setup} {g : ℕ} {c : Record} (x : Situation T g c) (y : Shown x (
   environments_are : c.frame.holder.environments ≡ slot_environments s_of h.environments
   environments_are = ap (λ (k : Holder). k.environments) y.holder
 
-  -- ---- of a frame
+  -- ---- duties of a frame
 
   module _ (e : RegionEnvironment) (es : List RegionEnvironment) (w : WordFrame) (ws : List WordFrame) (there : h.environments ≡ e ∷ es)
       (frames : c.frame.frames ≡ w ∷ ws) where

@@ -1,4 +1,5 @@
--- Where the frames of a goroutine are in the code.
+-- Where the frames of a goroutine are in the code. The frames of the state are there by region safety, and those of the record are at the
+-- same places, also of a sender whose offer was taken (`ControlView`).
 use Rattle.std.proofs.Common.{◌≡◌, ◌⊎◌, inl, inr, ⊎_elim, true, true≢false, ◌∙◌, ℕ, zero, suc, List, [], ◌∷◌, Option, Some, None, is_some, option_map, option_and_then, slice_get, refl, sym, ap, subst}
 use Rattle.std.proofs.lemmas.Option.{same_Some}
 use Rattle.rgo_sound.specs.Code.Checked.{IsChecked}

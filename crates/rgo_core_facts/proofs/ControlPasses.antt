@@ -1,4 +1,4 @@
--- What a call or a start passes has a region.
+-- What a call or a start passes has a region: the checker requires the names, and the invariant binds them.
 use Rattle.std.proofs.Common.{◌≡◌, ◌≢◌, ◌∙◌, ◌≤◌, ℕ, zero, suc, true, List, [], ◌∷◌, length, map, Option, Some, None, is_some, option_map, slice_get, Contains, refl, sym, ap, subst, arith}
 use Rattle.std.proofs.lemmas.Option.{same_Some}
 use Rattle.rgo_sound.specs.Code.ClassRules.{CallPasses, CallsPass, PassesClasses, StartPasses, StartsPass}

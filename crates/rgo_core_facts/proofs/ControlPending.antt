@@ -1,4 +1,4 @@
--- The stakes that a goroutine has taken for a child: each is in a region for which a name of the newest frame stands.
+-- The stakes that a goroutine has taken for a child: each is in a region to which a name of the newest frame is bound.
 use Rattle.std.proofs.Common.{◌≡◌, ◌≢◌, ◌∙◌, ◌<◌, ◌+◌, ℕ, suc, Bool, true, false, List, [], ◌∷◌, map, Option, Some, None, if◌then◌else◌, nat_eq, refl, sym, ap, arith}
 use Rattle.std.specs.List.{list_any}
 use Rattle.rgo_sound.specs.RegionMachine.Regions.{Bindings, bound, same_region, unbind, removed_once}
@@ -12,7 +12,7 @@ use Rattle.rgo_sound.proofs.Tests.{eq_of, split}
 use Rattle.rgo_sound.specs.Invariant.{IsReady, Shares, bound_times, same_bound, with_pending}
 use Rattle.rgo_sound.specs.Stakes.{one_when, times_in}
 
--- a name stands for region p
+-- a name is bound to region p
 abbrev pub IsBoundTo : Bindings → ℕ → Type 0
 IsBoundTo names p = (k : ℕ) × (bound names k ≡ Some (Numbered p))
 

@@ -1,4 +1,4 @@
--- The operands of a print.
+-- The operands of a print: their types by the rule of the checker, their words by the invariant of types.
 use Rattle.std.proofs.Common.{◌≡◌, ◌⊎◌, inl, inr, ◌∙◌, ℕ, Bool, true, false, List, Some, slice_get, Contains, sym, ap, subst, true≢false}
 use Rattle.std.proofs.lemmas.Option.{same_Some}
 use Rattle.std.specs.Int.{from_bool}

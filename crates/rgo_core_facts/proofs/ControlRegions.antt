@@ -1,4 +1,5 @@
--- Which regions a goroutine knows.
+-- Which regions a goroutine knows. Region safety says it of region numbers. A record has slots, and two regions that the goroutine knows
+-- have different ones, since both are live.
 use Rattle.std.proofs.Common.{◌≡◌, ◌⊎◌, inl, inr, ⊎_elim, ◌∙◌, ◌<◌, ℕ, zero, suc, Bool, true, false, List, [], ◌∷◌, length, map, Option, Some, None, if◌then◌else◌, slice_get, refl, sym, ap, subst, arith, true≢false}
 use Rattle.std.proofs.lemmas.List.{length-map}
 use Rattle.std.proofs.lemmas.Option.{same_Some, some_pair_parts}
@@ -98,7 +99,7 @@ module _ {T : Setup} {g : ℕ} {c : Record} (x : Situation T g c) where
     slot_low q i,
   )
 
-  -- of a region, by its slot
+  -- a region, by its slot
   pub region_staked : (q r : Region) → slotted_region s_of q ≡ r → ((j : ℕ) → q ≡ Numbered j → is_in j V.h.stakes ≡ true) → IsStaked T c r
   region_staked GlobalRegion r e k = subst (IsStaked T c) e tt
   region_staked (Numbered j) r e k = subst (IsStaked T c) e (number_staked j (k j refl))
@@ -205,7 +206,7 @@ none_of T c slot known low none = record {
       (known.pages f within);
 }
   where
-    clash : IsStaked T c (Numbered slotted_region) → ⊥
+    clash : IsStaked T c (Numbered slot) → ⊥
     clash st = true≢false (sym st.0 ∙ none)
 
 pub nothing_kept : NothingKept

@@ -1,4 +1,4 @@
--- How many operands each action has in checked code.
+-- How many operands each action has in checked code: the typing rule of each action names its operands.
 use Rattle.std.proofs.Common.{◌≡◌, ◌≢◌, ◌∙◌, ℕ, List, length, Option, Some, None, refl, sym, ap, subst}
 use Rattle.std.proofs.lemmas.List.{length-map}
 use Rattle.rgo_sound.specs.Ast.declared.ops.BinaryOp.TheVariants as binary

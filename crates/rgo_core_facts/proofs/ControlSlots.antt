@@ -1,4 +1,4 @@
--- What a goroutine knows of regions, from numbers of regions to slots and back.
+-- What a goroutine knows of regions, from numbers of regions to slots and back: lists are mapped, and tests commute for live regions.
 use Rattle.std.proofs.Common.{◌≡◌, ◌∙◌, ◌<◌, ◌||◌, ℕ, zero, suc, Bool, true, false, List, [], ◌∷◌, map, Some, None, option_map, if◌then◌else◌, nat_eq, slice_get, refl, sym, ap, subst, arith, true≢false}
 use Rattle.std.proofs.lemmas.Option.{same_Some, slice_get-map}
 use Rattle.std.specs.List.{list_any}
@@ -100,7 +100,7 @@ module _ (slot_of : ℕ → ℕ) where
   environment_unslotted es i e q =
       mapped (slot_environment slot_of) (slice_get es i) e (sym (slice_get-map (slot_environment slot_of) es i) ∙ q)
 
--- what is staked in all environments, is in each
+-- what is staked in all environments is staked in each
 pub staked_at : (stakes : List ℕ) (es : List RegionEnvironment) (i : ℕ) (e : RegionEnvironment) → AreStaked stakes es → slice_get es i ≡ Some e
     → NamesStaked stakes e.names × RegionsStaked stakes e.protections
 staked_at stakes [] i e s q = absurd (none e q)

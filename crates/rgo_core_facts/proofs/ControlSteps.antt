@@ -1,4 +1,4 @@
--- What the first duty of a goroutine does.
+-- What the first duty of a goroutine does: by computation, with the name and the tests as premises.
 use Rattle.std.proofs.Common.{◌≡◌, ◌∙◌, ℕ, zero, suc, Bool, false, List, [], ◌∷◌, map, Option, Some, None, option_map, option_and_then, if◌then◌else◌, refl, sym, ap}
 use Rattle.std.specs.Option.{option_map_or}
 use Rattle.rgo_core.specs.Channels.Records.{at_rest}

@@ -1,4 +1,5 @@
--- A goroutine ends a protection only where the newest frame has it: it is so at the start of a run, and each step keeps it.
+-- A goroutine ends a protection only if the newest frame has it: it is so at the start of a run, and each step keeps it. Protections are
+-- owed before a call and their ends after it, so the invariant is about the list of duties. The hard case is a return into a caller.
 use Rattle.std.proofs.Common.{◌≡◌, ◌⊎◌, inl, inr, ⊎_elim, ◌∙◌, ◌≤◌, ℕ, zero, suc, Bool, true, false, List, [], ◌∷◌, ◌++◌, map, Option, Some, None, option_and_then, if◌then◌else◌, slice_get, slice_set, refl, sym, ap, subst, arith}
 use Rattle.std.proofs.lemmas.Option.{same_Some}
 use Rattle.rgo_sound.specs.Code.Checked.{IsChecked}
@@ -140,7 +141,7 @@ top_protections (e ∷ es) = e.protections
 abbrev pub EndsProtections : Holder → Type 0
 EndsProtections h = UnprotectsFit h.duties (top_names h.environments) (top_protections h.environments)
 
--- of each goroutine
+-- for each goroutine
 abbrev pub AllEndProtections : RegionState → Type 0
 AllEndProtections s = (g : ℕ) (h : Holder) → slice_get s.holders g ≡ Some h → EndsProtections h
 
@@ -158,7 +159,7 @@ set_cases (x ∷ hs) zero k (suc j) h e = inr e
 set_cases (x ∷ hs) (suc g) k zero h e = inr e
 set_cases (x ∷ hs) (suc g) k (suc j) h e = set_cases hs g k j h e
 
--- in a list of holders one is another
+-- one holder of a list is replaced
 set_all : (hs : List Holder) (g : ℕ) (k : Holder) → ((j : ℕ) (h : Holder) → slice_get hs j ≡ Some h → EndsProtections h) → EndsProtections k
     → (j : ℕ) (h : Holder) → slice_get (slice_set hs g k) j ≡ Some h → EndsProtections h
 set_all hs g k all fits j h e = ⊎_elim
@@ -246,7 +247,7 @@ append_assoc [] b c = refl
 append_assoc (d ∷ a) b c = ap (λ l. d ∷ l) (append_assoc a b c)
 
 module _ (code : Code) (k : Holder) (frame : TacFrame) where
-  -- a return to a caller, whose call has protected what is now to be left
+  -- a return to a caller, whose call has protected what is now to be unprotected
   to_caller : (caller : TacFrame) (e : RegionEnvironment) (es : List RegionEnvironment) (next : List TacFrame) → Waits code caller e → below k.environments ≡ e ∷ es
       → EndsProtections (record k { environments = below k.environments; duties = duties_behind_call (current code caller) ++ next_duties code next })
   to_caller caller e es next w is =

@@ -1,5 +1,5 @@
--- The goroutine behind a record, whether or not an offer of it was taken: its frames as they were at its send, and what it has of
--- regions.
+-- The goroutine of a record, whether or not an offer of it was taken: its frames as they were at its send, and what it has of
+-- regions. A sender whose offer was taken is past its send in the state. Its record is compared with the frames before it.
 use Rattle.std.proofs.Common.{◌≡◌, ⊎_elim, ◌∙◌, ℕ, List, [], ◌∷◌, length, map, Option, Some, None, slice_get, refl, sym, ap, subst, arith}
 use Rattle.std.proofs.lemmas.List.{length-map}
 use Rattle.rgo_sound.specs.Code.Code.{Code, CodeFn, CodeInstr, CodeOp, Do, Slot}
@@ -55,7 +55,7 @@ assigned_long : (vs : List Value) (to : Option ℕ) (v : Value) → length (assi
 assigned_long vs None v = refl
 assigned_long vs (Some d) v = length_set vs d v
 
--- before its send, if it is behind it
+-- before its send, if it is past it
 placed_before : (code : Code) (frame : TacFrame) (callers : List TacFrame) (to : Option ℕ) (v : Value)
     → ArePlaced code (frame_after_instr frame to v ∷ callers) → ArePlaced code (frame ∷ callers)
 placed_before code frame callers to v h =
@@ -77,7 +77,7 @@ pub record Seen {T : Setup} {g : ℕ} {c : Record} (x : Situation T g c) : Type 
   pub at : slice_get x.s.plain.goroutines g ≡ Some now
   pub h : Holder
   pub there : slice_get x.s.holders g ≡ Some h
-  -- its frames as the record shows them
+  -- its frames, as the record shows them
   pub frames : List TacFrame
   pub as_many : length frames ≡ length now
   pub shown : FramesShow T.code (I x).addresses frames c.frame.frames

@@ -1,4 +1,4 @@
--- How many data pages an object has, and how many words follow its address.
+-- How many data pages an object has, and how many words follow its address: by cases over the three kinds of objects.
 use Rattle.std.proofs.Common.{◌≡◌, ℕ, zero, suc, ◌+◌, ◌-◌, ◌/◌, ◌<◌, ◌≤◌, true, false, length, max, nat_lt, if◌then◌else◌, ap, ◌∙◌, arith}
 use Rattle.std.proofs.lemmas.Bool.Decides.{nat_tests}
 use Rattle.std.proofs.lemmas.Nat.{le-div}
@@ -28,7 +28,7 @@ cells_fit (StructObject fields) = le_max (length fields)
 cells_fit (SliceObject elements) = omega arith
 cells_fit (Channel capacity queue closed) = omega arith
 
--- the cells but one, by the words
+-- all cells but one, by the words
 cells_but_one : (object : Object) (words before : ℕ) → words_of object ≡ words → (1 < words → cells object + before ≡ words)
     → cells object - 1 ≡ words - before - 1
 cells_but_one object zero before many parts = let c = cells_fit object in omega (arith, c, many)

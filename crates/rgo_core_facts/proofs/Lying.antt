@@ -1,4 +1,5 @@
--- Where the operands of a record's next instruction point, and so where the words lie that it accesses.
+-- Where the operands of a record's next instruction point, and so where the words are that it accesses. The image has every pointer lead
+-- to a live object of its type. The rest is how many words such an object has at least.
 use Rattle.std.proofs.Common.{◌≡◌, ℕ, suc, ◌+◌, ◌*◌, ◌/◌, ◌<◌, ◌≤◌, List, [], ◌∷◌, Option, Some, None, length, map, option_map, replicate, slice_get, slice_index, refl, ap, sym, subst, ◌∙◌, arith, Contains}
 use Rattle.std.proofs.lemmas.List.{length-map, length-replicate}
 use Rattle.std.proofs.lemmas.Option.{none-some, same_Some, slice_get-map, slice_get_within}
@@ -138,7 +139,7 @@ module _ (T : Setup) (c : Record) {op : CodeOp} (a : IsAtOp T.code c op) (p k ad
       let m = length-map struct.fields zero_of in
       omega (arith, l, m)
 
-  -- of a struct that fits a page the words up to the field
+  -- in a struct that fits a page: the words up to the field
   field_lies : length struct.fields ≤ T.sizes.page_words → LieInPages T address (suc k)
   field_lies fits =
       let l = follows in
@@ -147,7 +148,7 @@ module _ (T : Setup) (c : Record) {op : CodeOp} (a : IsAtOp T.code c op) (p k ad
       let w = row_whole T.sizes.page_words object (omega (arith, fits, i, m)) in
       omega (arith, l, i, w)
 
-  -- and of a spread one those up to the number of the field's data page
+  -- in a spread struct: those up to the number of the field's data page
   number_lies : T.sizes.page_words < length struct.fields → LieInPages T address (suc (0 + k / T.sizes.page_words))
   number_lies spread =
       let l = follows in

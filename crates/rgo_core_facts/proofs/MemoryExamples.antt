@@ -1,4 +1,4 @@
--- Examples of new objects, own pages and offers.
+-- Examples of new objects, own pages and offers, by computation.
 use Rattle.std.proofs.Common.{◌≡◌, ℕ, ◌<◌, true, false, true≢false, List, [], ◌∷◌, Some, None, length, max, nat_lt, slice_get, refl, ap, sym, ◌∙◌, ⊎_elim, arith}
 use Rattle.std.proofs.lemmas.Bool.Decides.{nat_tests}
 use Rattle.std.proofs.lemmas.Option.{none-some, same_Some}

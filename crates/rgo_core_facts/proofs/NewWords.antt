@@ -1,4 +1,5 @@
--- Which object the next instruction makes, in which region, and what its words first hold.
+-- Which object the next instruction makes, in which region, and what its words first hold. New objects hold zeros, and the word of each
+-- zero is 0.
 use Rattle.std.proofs.Common.{◌≡◌, ℕ, zero, suc, ◌+◌, ◌<◌, ◌≤◌, ◌^◌, true, false, pos, List, [], ◌∷◌, Option, Some, None, if◌then◌else◌, length, map, max, nat_lt, option_map, replicate, slice_get, refl, ap, sym, subst, ◌∙◌, arith}
 use Rattle.std.proofs.lemmas.Bool.Decides.{nat_tests}
 use Rattle.std.proofs.lemmas.List.{length-map, length-replicate}

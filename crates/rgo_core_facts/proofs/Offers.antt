@@ -1,4 +1,5 @@
--- A goroutine whose offer is at a channel: its record is before the send, and the words of the channel lie in pages.
+-- A goroutine whose offer is at a channel: its record is before the send, and the words of the channel are in pages. The channel is live in
+-- both cases: the sender is still at its send, or has not acknowledged.
 use Rattle.std.proofs.Common.{◌≡◌, ◌⊎◌, inl, inr, ℕ, List, [], ◌∷◌, Option, Some, true≢false, refl, ap, sym, subst, ◌∙◌, arith, map}
 use Rattle.std.proofs.lemmas.Option.{same_Some}
 use Rattle.rgo_sound.specs.Code.Code.{CodeInstr, Do}

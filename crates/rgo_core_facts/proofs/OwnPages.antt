@@ -1,4 +1,4 @@
--- The own pages of a goroutine.
+-- The own pages of a goroutine: the image has them claimed, one for each slot, and filled as the record says.
 use Rattle.std.proofs.Common.{◌≡◌, ⊎_elim, ℕ, zero, suc, ◌<◌, ◌≤◌, Bool, true, false, List, [], ◌∷◌, Some, if◌then◌else◌, length, nat_eq, nat_lt, map, slice_get, slice_index, refl, ap, sym, subst, ◌∙◌, arith}
 use Rattle.std.proofs.lemmas.Bool.Decides.{nat_tests}
 use Rattle.std.proofs.lemmas.Option.{none-some, same_Some}
@@ -31,7 +31,7 @@ use Rattle.rgo_core_facts.proofs.DataPages.{pages_so}
 
 -- ---- in a list
 
--- if all pages of a slot are one, that is the first
+-- if a slot has one page only, it is the first one found
 first_page : (s : ℕ) (fills : List Fill) (f : Fill) → Within f fills → f.slot ≡ s → ((e : Fill) → Within e fills → e.slot ≡ s → e ≡ f)
     → page_of s fills ≡ Some f
 first_page s [] f within its one = absurd (none-some f within.1)
@@ -47,7 +47,7 @@ first_page s (x ∷ xs) f within its one =
     by true is further = let same : x.slot ≡ s = grind (arith, nat_tests, is) in ap (λ (y : Fill). Some y) (one x (0, refl) same)
     by false is further = further (rest within.0 within.1 is)
 
--- ---- of a record
+-- ---- the own pages of a record
 
 module _ {T : Setup} {g : ℕ} {c : Record} (x : Situation T g c) where
   -- the slot of a live region, or of Global

@@ -1,4 +1,5 @@
--- The stores of a new object's words, one by one from the first.
+-- The stores of a new object's words, one by one from the first. After n stores the numbers below n are stored, so the last store is the
+-- one that covers all.
 use Rattle.std.proofs.Common.{◌≡◌, inl, inr, ℕ, zero, suc, ◌+◌, ◌<◌, ◌≤◌, ◌==◌, Bool, true, false, List, ◌∷◌, Some, if◌then◌else◌, refl, ap, sym, ◌∙◌, arith}
 use Rattle.std.proofs.lemmas.Bool.Decides.{nat_tests}
 use Rattle.rgo_sound.specs.Code.Code.{Code, CodeOp, Do}

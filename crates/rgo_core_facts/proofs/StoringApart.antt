@@ -1,4 +1,5 @@
--- The stores of a new spread object's words, one by one from the first, and then of the numbers of its data pages.
+-- The stores of a new spread object's words, one by one from the first, and then of the numbers of its data pages. As in `Storing`; where
+-- word n goes is the definition of the layout, by three cases.
 use Rattle.std.proofs.Common.{◌≡◌, ◌⊎◌, inl, inr, ℕ, zero, suc, ◌+◌, ◌-◌, ◌/◌, ◌<◌, ◌≤◌, Bool, true, false, List, ◌∷◌, length, if◌then◌else◌, nat_lt, slice_index, refl, ap, sym, ◌∙◌, arith}
 use Rattle.std.proofs.lemmas.Bool.Decides.{nat_tests}
 use Rattle.rgo_sound.specs.Memory.Memory.{Object}
@@ -75,7 +76,7 @@ module _ (T : Setup) (c : Record) (slot words before : ℕ) (first : ℕ → ℕ
   data_are : data_pages T.sizes.page_words object ≡ data_pages_of T.sizes.page_words words before
   data_are = pages_so T.sizes.page_words object words before new.many new.split
 
-  -- an object of one word has no place where it may be spread
+  -- an object of one word is never spread
   some : 1 < words
   some =
       let e : data_pages_of T.sizes.page_words words before ≡ (words - before - 1) / T.sizes.page_words + 1 =

@@ -1,4 +1,4 @@
--- An object of more data pages than one may have: the run may end for it.
+-- An object of more data pages than one may have: the run may end for it, since the machine's next instruction makes the same object.
 use Rattle.std.proofs.Common.{◌≡◌, ℕ, ◌+◌, ◌<◌, true, false, [], map, replicate, refl, sym, subst, ◌∙◌, arith}
 use Rattle.std.proofs.lemmas.List.{length-replicate}
 use Rattle.rgo_sound.specs.Code.Code.{Do}
@@ -16,7 +16,7 @@ use Rattle.rgo_core_facts.specs.MemoryObjects.{OfChannel, OfSlice, OfStruct, Too
 use Rattle.rgo_core_facts.proofs.DataPages.{less, pages_so}
 use Rattle.rgo_core_facts.proofs.NewWords.{struct_many, struct_split, struct_there}
 
--- it is too large by its words, of which so many are before its cells
+-- it is too large by its words, `before` of which precede its cells
 too_many : (page_words : ℕ) (object : Object) (words before : ℕ) → words_of object ≡ words → (1 < words → cells object + before ≡ words)
     → most_data_pages page_words < data_pages_of page_words words before → is_too_large page_words object ≡ true
 too_many page_words object words before many split large =

@@ -1,4 +1,5 @@
--- What checked code says of each of its instructions: its variables, the instructions that may follow it, and its callee exist.
+-- What holds of each instruction of checked code: its variables, the instructions that may follow it, and its callee exist. These need no
+-- record and no run, and are used when compact code is made.
 use Rattle.std.specs.Prelude.{◌≡◌, ◌<◌, ◌≤◌, ◌+◌, ℕ, List, length, Option, Some, None, is_some, slice_get, ⊤}
 use Rattle.rgo_sound.specs.Code.Checked.{IsChecked}
 use Rattle.rgo_sound.specs.Code.Code.{Branch, Call, Code, CodeFn, CodeInstr, CodeOp, Do, Go, Jump, Print, Return}
@@ -19,7 +20,7 @@ OfInstructions P = (code : Code) (n i : ℕ) (fn : CodeFn) (instr : CodeInstr) �
 abbrev pub UsesVariables : CodeFn → CodeOp → Type 0
 UsesVariables fn op = (v : ℕ) → UsesVariable (erased_op op) v → v < length fn.variables
 
--- what may follow it is an instruction of the same body
+-- what may follow it is an instruction of the same body: by the next number, or by a jump
 abbrev pub IsFollowed : CodeFn → (i : ℕ) → CodeOp → Type 0
 IsFollowed fn i (Do to action from removes) = i + 1 < length fn.body
 IsFollowed fn i (Call to n from passes protects removes) = i + 1 < length fn.body
@@ -41,7 +42,8 @@ ReturnsResult fn (Branch test target removes other otherwise) = ⊤
 
 -- ---- callees
 
--- Function n exists and takes these arguments and regions. It has a result exactly if a variable waits for one.
+-- Function n exists and takes these arguments and regions. It has a result exactly if a variable waits for one. So entering it needs no
+-- test.
 pub record CanCall (code : Code) (to : Option ℕ) (n : ℕ) (from : List ℕ) (passes : List Class) : Type 0 where
   pub callee : CodeFn
   pub found : code_function code n ≡ Some callee

@@ -1,4 +1,5 @@
--- Where the frames of a goroutine are in the code, by its record.
+-- Where the frames of a goroutine are in the code, by its record. A record may come from any point of a run, so these are invariants of
+-- runs, read through it.
 use Rattle.std.specs.Prelude.{◌≡◌, ◌⊎◌, ℕ, List, [], ◌∷◌, length, Option, Some, is_some, slice_get}
 use Rattle.rgo_sound.specs.Code.Code.{Call, Code, CodeFn, CodeInstr, CodeOp, Return}
 use Rattle.rgo_core.specs.Frames.steps.Local.{local}
@@ -12,7 +13,7 @@ use Rattle.rgo_core.specs.Core.{Situation, Setup}
 use Rattle.rgo_core.specs.Next.{IsAtOp}
 use Rattle.rgo_core.specs.Records.{Record}
 
--- P holds of every record that a goroutine may have
+-- P holds of every record that a goroutine may have, whatever the others have
 abbrev pub OfRecords : (Setup → Record → Type 0) → Type 0
 OfRecords P = (T : Setup) (g : ℕ) (c : Record) → Situation T g c → P T c
 
@@ -25,6 +26,7 @@ pub record IsInCode (code : Code) (w : WordFrame) : Type 0 where
   pub instr : CodeInstr
   pub at : slice_get fn.body w.next ≡ Some instr
   pub cur : current code (bare w) ≡ Some instr
+  -- each variable of the function has its word, so reading one needs no test
   pub words : length w.variables ≡ length fn.variables
 
 -- every frame is in the code
@@ -32,7 +34,7 @@ abbrev pub FramesInCode : Type 0
 FramesInCode = OfRecords (λ T c. (i : ℕ) (w : WordFrame) → slice_get c.frame.frames i ≡ Some w → IsInCode T.code w)
 
 -- The function of the frame was called by that of the next frame, which is still at the call. A variable waits for a result exactly if
--- the function has one.
+-- the function has one. So a return needs no place to remember where it returns to.
 pub record IsCalledBy (code : Code) (w caller : WordFrame) : Type 0 where
   pub fn : CodeFn
   pub in_fn : code_function code w.function ≡ Some fn
@@ -67,7 +69,7 @@ abbrev pub NextKnown : Type 0
 NextKnown = OfRecords (λ T c. (w : WordFrame) (ws : List WordFrame) → c.frame.frames ≡ w ∷ ws → c.frame.holder.duties ≡ []
     → c.frame.holder.offer ≡ NoOffer → IsAtNext T.code c w ws)
 
--- A goroutine with an offer is at a send, and has no duty. Else it has no offer.
+-- A goroutine with an offer is at a send, and has no duty; otherwise it has no offer.
 abbrev pub OffersKnown : Type 0
 OffersKnown = OfRecords (λ T c. (c.frame.holder.offer ≡ NoOffer)
     ⊎ ((c.frame.holder.offer ≡ Standing 0) × (c.frame.holder.duties ≡ []) × IsAtSend T c))

@@ -1,4 +1,4 @@
--- The operands of a print: each is an int or a bool, whose word fits its type.
+-- The operands of a print: each is an int or a bool, whose word fits its type. A bool's word is 0 or 1, so it can be tested either way.
 use Rattle.std.specs.Int.{cast_signed, w64}
 use Rattle.std.specs.Prelude.{◌≡◌, ◌⊎◌, ◌<◌, ◌^◌, ℕ, List, Contains, Some, slice_get}
 use Rattle.rgo_sound.specs.Code.Code.{CodeFn, Print, Slot}

@@ -1,4 +1,5 @@
--- Which regions a goroutine knows, by its record. Each is Global, or has a slot of the table in which the goroutine has a stake.
+-- Which regions a goroutine knows, by its record. Each is Global, or has a slot of the table in which the goroutine has a stake. Only the
+-- goroutine itself ends its stakes, so what it knows stays right whatever others do.
 use Rattle.std.specs.List.{list_any}
 use Rattle.std.specs.Prelude.{◌≡◌, ◌≢◌, ◌⊎◌, ◌<◌, ℕ, true, false, List, [], ◌∷◌, length, Some, slice_get}
 use Rattle.rgo_sound.specs.Code.Code.{Call, CodeOp, Go}
@@ -29,16 +30,18 @@ abbrev pub HasEnvironment : Record → RegionEnvironment → Type 0
 HasEnvironment c e = (i : ℕ) × (slice_get c.frame.holder.environments i ≡ Some e)
 
 pub record KnowsRegions (T : Setup) (c : Record) : Type 0 where
+  -- Global's slot comes after these, so no stake can be taken for Global's
   pub slots : (p : ℕ) → is_in p c.frame.holder.stakes ≡ true → p < T.sizes.regions
   -- an environment for each frame; each binds a name once
   pub as_many : length c.frame.holder.environments ≡ length c.frame.frames
   pub unique : AreUniqueIn c.frame.holder.environments
-  -- what it knows of any region, it knows of one in which it has a stake
+  -- What it knows of any region, it knows of one in which it has a stake. This is what lets code keep keys in place of slots.
   pub names : (e : RegionEnvironment) (k : ℕ) (r : Region) → HasEnvironment c e → bound e.names k ≡ Some r → IsStaked T c r
   pub protections : (e : RegionEnvironment) (r : Region) → HasEnvironment c e → list_any (same_region r) e.protections ≡ true
       → IsStaked T c r
   pub base : (r : Region) → list_any (same_region r) c.frame.holder.base ≡ true → IsStaked T c r
   pub pending : (p : ℕ) → 0 < times_in p c.frame.holder.pending → IsStaked T c (Numbered p)
+  -- an own page is given up with the stake: after that the page may be returned and claimed by others
   pub pages : (f : Fill) → Within f c.memory.fills → (f.slot ≡ T.sizes.regions) ⊎ IsStaked T c (Numbered f.slot)
 
 abbrev pub RegionsKnown : Type 0
@@ -50,7 +53,8 @@ NewestNames = OfRecords (λ T c. (k : ℕ) (r : Region) → bound (top_names c.f
 
 -- ---- after the end of a stake
 
--- nothing is left of the slot: no name, no protection, no stake for a child and no own page
+-- Nothing is left of the slot: no name, no protection, no stake for a child and no own page. The slot may be used again for another region,
+-- of which anything left over would be wrong.
 pub record HasNothingOf (c : Record) (slot : ℕ) : Type 0 where
   pub names : (e : RegionEnvironment) (k : ℕ) → HasEnvironment c e → bound e.names k ≢ Some (Numbered slot)
   pub protections : (e : RegionEnvironment) → HasEnvironment c e → list_any (same_region (Numbered slot)) e.protections ≡ false
@@ -65,7 +69,7 @@ NothingKept = OfRecords (λ T c. (slot : ℕ) → slot < T.sizes.regions → is_
 abbrev pub StakeEnds : Type 0
 StakeEnds = (c : Record) (slot : ℕ) (k : Holder) → ending c ≡ Some (slot, k) → is_in slot k.stakes ≡ false
 
--- a goroutine that has returned and has no duty has no stake
+-- a goroutine that has returned and has no duty has no stake: it has ended all of them itself
 abbrev pub NoStakeAtEnd : Type 0
 NoStakeAtEnd = OfRecords (λ T c. c.frame.frames ≡ [] → c.frame.holder.duties ≡ []
     → (c.frame.holder.stakes ≡ []) × (c.frame.holder.environments ≡ []) × (c.frame.holder.base ≡ []))

@@ -1,4 +1,5 @@
--- How many operands each action has in checked code, and whether it has a value.
+-- How many operands each action has in checked code, and whether it has a value. Types determine both, so they hold for every checked
+-- instruction.
 use Rattle.std.specs.Prelude.{◌≡◌, ◌≢◌, ℕ, Bool, true, false, List, length, Option, is_some, ⊤}
 use Rattle.rgo_sound.specs.Ast.declared.ops.BinaryOp.TheVariants as binary
 use Rattle.rgo_sound.specs.Ast.declared.ops.BinaryOp.{BinaryOp}
@@ -53,7 +54,8 @@ gives_value action.Chan = true
 gives_value action.Recv = true
 gives_value (action.Get n) = true
 
--- It has that many operands, and a variable for its value exactly if it has one. `&&` and `||` are not actions.
+-- It has that many operands, and a variable for its value exactly if it has one. `&&` and `||` are not actions: lowering makes branches of
+-- them.
 pub record IsShaped (to : Option ℕ) (act : Action) (from : List ℕ) : Type 0 where
   pub operands : length from ≡ action_arity act
   pub target : is_some to ≡ gives_value act

@@ -1,4 +1,5 @@
--- What the first duty of a goroutine does: it is a local step, or it changes the count of a region.
+-- What the first duty of a goroutine does: it is a local step, or it changes the count of a region. Which of the two, the record decides,
+-- so the code knows before it does anything whether an access is needed.
 use Rattle.std.specs.List.{list_any}
 use Rattle.std.specs.Prelude.{◌≡◌, ℕ, true, false, List, ◌∷◌, Some, nat_eq}
 use Rattle.rgo_core.specs.Channels.Records.{at_rest}
@@ -21,7 +22,7 @@ abbrev pub NoneAfterExit : Type 0
 NoneAfterExit = (T : Setup) (g : ℕ) (c : Record) (d : Duty) (ds : List Duty) → Situation T g c → c.frame.holder.duties ≡ d ∷ ds
     → is_exit g c.frame.frames ≡ false
 
--- The next step of the goroutine is a local one. Its record has this holder after it, and is else the same.
+-- The next step of the goroutine is a local one. Its record has this holder after it, and is otherwise the same.
 pub record LocalStepTo (T : Setup) (g : ℕ) (c : Record) (k : Holder) : Type 0 where
   pub settles : SettlesBy T g 1 c
   pub becomes : settled_by T g 1 c ≡ record c { frame = record c.frame { holder = k } }
@@ -32,7 +33,7 @@ LocalDuty = (T : Setup) (g : ℕ) (c : Record) (d : Duty) (ds : List Duty) (k : 
 
 -- ---- what a duty leaves of a holder, which has the others left
 
--- the newest frame has this name no more
+-- the newest frame no longer has this name
 abbrev pub unnamed : Holder → (name : ℕ) → Holder
 unnamed h k = record h { environments = with_top h.environments (unbind (top_names h.environments) k) }
 
@@ -47,13 +48,13 @@ pub record DutyLaws : Type 0 where
   pub protect : (h : Holder) (k : ℕ) (r : Region) → IsNameOf h k r
       → local_duty h (Protect k) ≡ Some (record h { environments = with_protection h.environments r })
   pub unprotect : (h : Holder) (k : ℕ) (r : Region) → IsNameOf h k r → local_duty h (Unprotect k) ≡ Some (unprotected h r)
-  -- a stake for a child: none in Global, and one in each other region
+  -- a stake for a child: none in Global, and one in each other region, however many names lead to it
   pub share_global : (h : Holder) (k : ℕ) → IsNameOf h k GlobalRegion → local_duty h (Share k) ≡ Some h
   pub share_again : (h : Holder) (k p : ℕ) → IsNameOf h k (Numbered p) → list_any (nat_eq p) h.pending ≡ true
       → local_duty h (Share k) ≡ Some h
   pub share_first : (h : Holder) (k p : ℕ) → IsNameOf h k (Numbered p) → list_any (nat_eq p) h.pending ≡ false
       → stake_shared h (Share k) ≡ Some (p, record h { pending = p ∷ h.pending })
-  -- a removal does nothing to Global, nor to a region that is protected; else it ends a stake
+  -- a removal ends no stake in Global, nor in a region that is protected; otherwise it ends one
   pub remove_global : (h : Holder) (k : ℕ) → IsNameOf h k GlobalRegion → local_duty h (Remove k) ≡ Some (unnamed h k)
   pub remove_guarded : (h : Holder) (k p : ℕ) → IsNameOf h k (Numbered p) → guards h.base h.environments (Numbered p) ≡ true
       → local_duty h (Remove k) ≡ Some (unnamed h k)

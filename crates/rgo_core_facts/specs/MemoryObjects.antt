@@ -1,5 +1,5 @@
 -- The object that the next instruction of a goroutine makes: how many words it has, what they first hold, and for which region it
--- is made; and what the record is while these words are stored.
+-- is made; and what the record is while these words are stored. Code has numbers of words only. These facts lead from them to objects.
 use Rattle.std.specs.Prelude.{◌≡◌, ◌+◌, ◌-◌, ◌/◌, ◌%◌, ◌<◌, ◌≤◌, ◌==◌, ◌^◌, ℕ, zero, suc, true, List, [], ◌∷◌, Option, Some, None, if◌then◌else◌, length, max, nat_lt, slice_get, slice_index}
 use Rattle.rgo_sound.specs.Code.Code.{Code, CodeOp, Do}
 use Rattle.rgo_sound.specs.Code.Names.{class_of}
@@ -46,7 +46,7 @@ HasRegion = (T : Setup) (g : ℕ) (c : Record) → Situation T g c → (to : Opt
 
 -- ---- its words
 
--- The next instruction makes an object with this number of words in the region of this slot. If there are several, `before` of them
+-- The next instruction makes an object with this number of words in the region of this slot. If it has several, `before` of them
 -- precede its cells. Word i first holds `first i`.
 pub record NewObject (T : Setup) (c : Record) (slot words before : ℕ) (first : ℕ → ℕ) : Type 0 where
   pub object : Object
@@ -55,7 +55,7 @@ pub record NewObject (T : Setup) (c : Record) (slot words before : ℕ) (first :
   pub split : 1 < words → cells object + before ≡ words
   pub opens : (i : ℕ) → i < words → opening_word (content object i) ≡ first i
 
--- a struct has a word for each field, and at least one
+-- a struct has a word for each field, and at least one, so that each object has an address of its own
 abbrev pub all_struct_words : Option Struct → ℕ
 all_struct_words None = 1
 all_struct_words (Some struct) = max 1 (length struct.fields)
@@ -92,7 +92,8 @@ MakesChannel = (T : Setup) (c : Record) (to : Option ℕ) (p : ℕ) (removes : L
     (r : Region) → MakesIn T c a r → frame_word a.w p < 1073741820
     → NewObject T c (slot_number (layout T) r) (channel_words (frame_word a.w p)) 2 (channel_opens (frame_word a.w p))
 
--- An access that leaves the frames and what is known of regions leaves the next instruction, and so the object that it makes.
+-- An access that leaves the frames and what is known of regions leaves the next instruction, and so the object that it makes. Claims and
+-- opening stores are such accesses.
 abbrev pub AtStays : Type 0
 AtStays = (code : Code) (c d : Record) (op : CodeOp) → d.frame ≡ c.frame → IsAtOp code c op → IsAtOp code d op
 
@@ -120,7 +121,7 @@ pub data HasWords (code : Code) (w : WordFrame) (act : Action) (from : List ℕ)
   OfChannel : (p : ℕ) → act ≡ action.Chan → from ≡ p ∷ [] → frame_word w p < 2 ^ 63 → words ≡ channel_words (frame_word w p) → before ≡ 2
       → HasWords code w act from words before
 
--- if it has more data pages than an object may have, the run may end by this limit
+-- if it has more data pages than an object may have, the run may end by this limit, in every state with this record
 abbrev pub TooLarge : Type 0
 TooLarge = (T : Setup) (g : ℕ) (c : Record) (x : Situation T g c) (to : Option ℕ) (act : Action) (from removes : List ℕ)
     (a : IsAtOp T.code c (Do to act from removes)) (words before : ℕ) → HasWords T.code a.w act from words before
@@ -129,7 +130,7 @@ TooLarge = (T : Setup) (g : ℕ) (c : Record) (x : Situation T g c) (to : Option
 
 -- ---- its page
 
--- this own page does not have room for an object with this number of words, or there is no own page
+-- this own page does not have room for an object with this number of words, or the goroutine has no own page there
 abbrev pub PageHasNoRoom : (page_words words : ℕ) → Option Fill → Type 0
 PageHasNoRoom n words None = Unit {0}
 PageHasNoRoom n words (Some f) = n < f.fill + words
@@ -150,7 +151,7 @@ WantsReserved = (T : Setup) (c : Record) (slot words before : ℕ) (first : ℕ 
     → T.sizes.page_words < words → data_pages_of T.sizes.page_words words before ≤ most_data_pages T.sizes.page_words
     → length c.memory.reserved.pages ≤ data_pages_of T.sizes.page_words words before → NeedsReserved T c slot
 
--- ---- the stores of its words, from the first one on
+-- ---- The stores of its words, from the first one on. The table allows any order; one fixed order makes the record a function of n.
 
 -- the first n numbers, the last first
 abbrev pub numbers_below : ℕ → List ℕ
@@ -219,7 +220,7 @@ spot_of page_words words before pages n =
     then record { page = slice_index pages ((n - before) / page_words + 1); offset = (n - before) % page_words }
     else record { page = slice_index pages 0; offset = before + (n - words) })
 
--- what it first holds
+-- what word n first holds
 abbrev pub first_held : (words : ℕ) → (first : ℕ → ℕ) → List ℕ → (n : ℕ) → ℕ
 first_held words first pages n = if nat_lt n words then first n else suc (slice_index pages (n - words + 1))
 

@@ -1,4 +1,5 @@
--- The own pages of a goroutine and those that it has reserved, and what of its memory has to be at rest before a stake ends.
+-- The own pages of a goroutine and those that it has reserved, and what of its memory has to be at rest before a stake ends. Nobody else
+-- accesses these pages above the fill, so the goroutine needs no lock to fill them.
 use Rattle.std.specs.Prelude.{◌≡◌, ◌+◌, ◌*◌, ◌<◌, ◌≤◌, ℕ, suc, Some, length, slice_index}
 use Rattle.rgo_core.specs.Memory.Events.{IsFreeOf}
 use Rattle.rgo_core.specs.Memory.Records.{Fill, Idle, Rec, Rest, Within, page_of, with_own_page}
@@ -12,13 +13,14 @@ pub record IsOwnPage (T : Setup) (slot : ℕ) (f : Fill) : Type 0 where
   pub its : f.slot ≡ slot
   pub low : slot ≤ T.sizes.regions
   pub page : f.page < T.sizes.pages
+  -- so what is left of the page is a difference that is not negative
   pub fill : f.fill ≤ T.sizes.page_words
 
 abbrev pub OwnPages : Type 0
 OwnPages = (T : Setup) (g : ℕ) (c : Record) → Situation T g c → (slot : ℕ) (f : Fill) → page_of slot c.memory.fills ≡ Some f
     → IsOwnPage T slot f
 
--- there is one of each slot
+-- a goroutine has at most one own page for each slot
 abbrev pub OneOwnPage : Type 0
 OneOwnPage = (T : Setup) (g : ℕ) (c : Record) → Situation T g c → (f : Fill) → Within f c.memory.fills
     → page_of f.slot c.memory.fills ≡ Some f
@@ -37,7 +39,7 @@ abbrev pub ReservedFew : Type 0
 ReservedFew = (T : Setup) (g : ℕ) (c : Record) → Situation T g c → (slot words before : ℕ) (first : ℕ → ℕ) → NewObject T c slot words before first
     → length c.memory.reserved.pages ≤ suc (data_pages_of T.sizes.page_words words before)
 
--- what is left of a page lies in the pages
+-- what is left of a page is in the pages
 abbrev pub RoomLies : Type 0
 RoomLies = (T : Setup) (page fill n : ℕ) → page < T.sizes.pages → fill + n ≤ T.sizes.page_words
     → LieInPages T (page * T.sizes.page_words + fill) n

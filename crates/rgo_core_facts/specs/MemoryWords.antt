@@ -1,5 +1,6 @@
--- Where the words lie that the next instruction of a goroutine accesses. A pointer, slice or channel that is not nil is one more than
--- an address, and the words from there on are words of pages.
+-- Where the words are that the next instruction of a goroutine accesses. A pointer, slice or channel that is not nil is one more than
+-- an address, and the words from there on are words of pages. Words beyond those that the type guarantees are known to be in the
+-- pages only after a length or a capacity was loaded.
 use Rattle.std.specs.Prelude.{◌≡◌, ◌+◌, ◌/◌, ◌<◌, ◌≤◌, ℕ, suc, List, [], ◌∷◌, Option, Some, None, Contains, length, slice_get}
 use Rattle.rgo_sound.specs.Code.Code.{CodeOp, Do}
 use Rattle.rgo_sound.specs.Code.Erasure.{erased_fn, erased_op}
@@ -24,7 +25,7 @@ use Rattle.rgo_core.specs.Records.{Record}
 
 -- ---- operands
 
--- a variable of this type that the next instruction reads points where it may
+-- a variable of this type that the next instruction reads points into the pages
 abbrev pub OperandPoints : Type 0
 OperandPoints = (T : Setup) (g : ℕ) (c : Record) → Situation T g c → (op : CodeOp) (a : IsAtOp T.code c op) (v : ℕ) (ty : «Type»)
     → Contains (reads (erased_op op)) v → VariableHasType (erased_fn a.fn) v ty → Points T ty (frame_word a.w v)
@@ -103,7 +104,7 @@ ChannelLies = (T : Setup) (g : ℕ) (c : Record) → Situation T g c → (to : O
     → LieInPages T address 3
 
 -- The channel at which the goroutine's offer is: its control is a word of a page, and so are its capacity and its first cell. The
--- record of the goroutine is before the send.
+-- record of the goroutine is before the send, also when the offer was taken.
 pub record OffersAt (T : Setup) (c : Record) (at : ℕ) : Type 0 where
   pub send : IsAtSend T c
   pub address : ℕ

@@ -1,4 +1,5 @@
--- What a record says of the machine before an instruction.
+-- What follows from a record before an instruction. By the offer the record is not past its send, so its frames are shown. Types and
+-- stakes are those of the invariant of region safety.
 use Rattle.std.proofs.Common.{◌≡◌, ◌⊎◌, ℕ, List, [], ◌∷◌, Some, refl, sym, ap, ◌∙◌, subst, inl, inr, slice_get}
 use Rattle.rgo_sound.specs.Tac.Frames.{TacFrame}
 use Rattle.rgo_sound.specs.Code.Checked.{IsChecked}

@@ -1,4 +1,5 @@
--- Records fit again after a step of one goroutine.
+-- Records fit again after a step of one goroutine. The others' frames and holders are as before, and words that show values still do
+-- when an address is appended. So only the record of the goroutine itself, and of one that it has started, needs a proof.
 use Rattle.std.proofs.Common.{◌≡◌, ◌⊎◌, ℕ, ◌+◌, ◌<◌, ◌≤◌, true, false, List, [], ◌∷◌, length, Option, Some, None, refl, sym, ap, ◌∙◌, subst, inl, inr}
 use Rattle.std.proofs.Common.{slice_get, slice_set, nat_eq, nat_lt, arith}
 use Rattle.std.proofs.lemmas.Option.{same_Some}
@@ -84,7 +85,7 @@ module _ (code : Code) (slot_of : ℕ → ℕ) (addresses more : List ℕ) where
 
 -- ---- another state
 
--- in which only goroutine g has other frames and another holder, and others may have been started
+-- only goroutine g has other frames and another holder, and others may have been started
 pub record Changes
     (s t : RegionState) (g : ℕ) (frames : List TacFrame) (h : Holder) (started : List (List TacFrame)) (children : List Holder)
     : Type 0 where
@@ -182,7 +183,7 @@ module _ (code : Code) (slot_of : ℕ → ℕ) (addresses more : List ℕ) (s t 
         by j x (inl q) = old_fits j x q
         by j x (inr (q, is)) = subst (λ z. RecordFits code slot_of (addresses ++ more) t j z) (sym is) (last j q)
 
--- the same where nothing but one goroutine has changed
+-- the same if only one goroutine has changed
 pub all_fit_kept : (code : Code) (slot_of : ℕ → ℕ) (addresses : List ℕ) (s t : RegionState) (g : ℕ) (frames : List TacFrame) (h : Holder)
     (frames' : List TacFrame) (h' : Holder) → slice_get s.plain.goroutines g ≡ Some frames → slice_get s.holders g ≡ Some h
     → Changes s t g frames' h' [] [] → t.plain.memory ≡ s.plain.memory → t.regions ≡ s.regions → t.owners ≡ s.owners
@@ -200,7 +201,7 @@ all_fit_kept code slot_of addresses s t g frames h frames' h' at there changes m
     (subst (λ rs. ObjectsDiffer addresses rs t.owners) (sym regions)
     (subst (ObjectsDiffer addresses s.regions) (sym owners) all.addresses_differ))))
 
--- ---- what a goroutine has, is live
+-- ---- the regions of a goroutine are live
 
 module _ (code : Code) (s : RegionState) (fine : Fine code s) (g : ℕ) (h : Holder) (there : slice_get s.holders g ≡ Some h)
   where

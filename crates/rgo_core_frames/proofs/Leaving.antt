@@ -1,4 +1,4 @@
--- What a step leaves as it was, from the laws of region safety.
+-- What a step leaves as it was, from the laws of region safety. So it is proved once, and not for each kind of step.
 use Rattle.std.proofs.Common.{◌≡◌, ℕ, List, Option, Some, None, refl}
 use Rattle.rgo_sound.specs.Code.Code.{Code}
 use Rattle.rgo_sound.specs.RegionMachine.Instructions.{mark_with_end, printed_if}
@@ -33,7 +33,7 @@ has_step code page_words slot_of addresses s event regions mark records t e fit 
   counted = counted;
 }
 
--- one that leaves memory, print, owners, regions and mark by definition
+-- a step that leaves memory, print, owners, regions and mark by definition
 pub has_still_step : (code : Code) (page_words : ℕ) (slot_of : ℕ → ℕ) (addresses : List ℕ) (s : RegionState)
     (event : Event) (records : List FramesRec) (holders : List Holder)
     → region_step code page_words s event ≡ Some (record s { holders = holders })

@@ -1,4 +1,4 @@
--- The record of `main` fits as a run begins.
+-- The record of `main` fits as a run begins. The word 0 shows the zero of each type, so its variables show theirs.
 use Rattle.std.proofs.Common.{◌≡◌, ℕ, zero, suc, List, [], ◌∷◌, Some, None, refl, sym, ◌∙◌, subst, inl, slice_get, true≢false}
 use Rattle.std.proofs.lemmas.Option.{same_Some}
 use Rattle.rgo_sound.specs.Tac.Frames.{TacFrame, new_tac_frame}

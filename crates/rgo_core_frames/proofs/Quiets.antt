@@ -1,4 +1,4 @@
--- Local steps in a row, and what they keep of stakes.
+-- Local steps in a row, and what they keep of stakes: by induction over their number, each by `local_law`.
 use Rattle.std.proofs.Common.{◌≡◌, ℕ, zero, suc, Bool, true, false, List, [], ◌∷◌, Option, Some, None, refl, sym, ap, ◌∙◌, subst, length}
 use Rattle.std.proofs.Common.{slice_set, option_and_then, option_map, unwrap_or, if◌then◌else◌, true≢false}
 use Rattle.std.proofs.lemmas.Option.{same_Some}
@@ -107,7 +107,7 @@ one_more x q y d e no_exit k more =
           ∙ ap (mark_with_end x.s.mark) (no_end x.g x.c.holder.duties y.frames no_exit) ∙ mark_stays x.s.mark;
     })
 
--- where the record is after one step
+-- the record after one step
 abbrev next_here : (x : Here) (y : FramesRec) (k : RegionStepsTo x (event_of x.g x.c) x.s.regions (mark_with_end x.s.mark (end_of x.g x.c y))
     (slice_set x.records x.g y)) → Here
 next_here x y k = record {

@@ -1,4 +1,5 @@
--- What a goroutine reads before an instruction: the objects to which it points are in live regions.
+-- What a goroutine reads before an instruction: the objects to which it points are in live regions. What it reads is live in the
+-- sense of the analysis, the checked code has a name for its region, and a named region has a stake.
 use Rattle.std.proofs.Common.{◌≡◌, ℕ, true, List, ◌∷◌, Option, Some, None, refl, ap, ◌∙◌, subst, slice_get, Contains}
 use Rattle.rgo_sound.specs.Memory.declared.values.Value.TheVariants as value
 use Rattle.rgo_sound.specs.Tac.Flow.{reads}

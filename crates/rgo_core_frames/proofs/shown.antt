@@ -1,4 +1,4 @@
--- What words of frames show of values, frames and constants.
+-- What words of frames show: values, frames and constants.
 pub mod ConstantLemmas
 pub mod Operands
 pub mod Sending

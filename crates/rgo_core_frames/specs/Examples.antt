@@ -127,7 +127,7 @@ pub record WordExamples : Type 0 where
 pub record FrameRecordExamples : Type 0 where
   pub reads : frame_word some_frame 0 ≡ 5
   pub goes : word_going some_frame (Some 1) 8 ≡ record { function = 1; next = 5; variables = 5 ∷ 8 ∷ [] }
-  -- as many words as variables, though there are two values
+  -- equally many words and variables, whatever the two values are
   pub alike : IsAlike (record { function = 1; next = 4; variables = value.Nil ∷ value.Nil ∷ [] }) some_frame
   pub elsewhere : IsAlike (record { function = 1; next = 5; variables = value.Nil ∷ value.Nil ∷ [] }) some_frame → ⊥
   pub callers : (code : Code) → FramesShow code [] [] (some_frame ∷ []) → ⊥

@@ -1,4 +1,5 @@
--- States of runs of checked code, as the laws want them; and one record among those that represent such a state.
+-- States of runs of checked code, as the laws need them; and one record among those that represent such a state. They are states and
+-- no runs, since two laws about one step have to be about the same state.
 use Rattle.rgo_sound.specs.Code.Checked.{IsChecked}
 use Rattle.rgo_sound.specs.Code.Code.{Code, CodeInstr}
 use Rattle.rgo_sound.specs.Code.NameRules.{Ascends}
@@ -13,7 +14,7 @@ use Rattle.rgo_core_frames.specs.Fits.{RecordsFit}
 use Rattle.rgo_core_frames.specs.Records.{FramesRec}
 use Rattle.rgo_core_frames.specs.shown.WordFrames.{WordFrame}
 
--- what each state of a run of checked code has
+-- what holds of each state of a run of checked code
 pub record IsSound (code : Code) (s : RegionState) : Type 0 where
   pub checked : IsChecked code
   pub written : Ascends code
@@ -28,7 +29,7 @@ pub record SoundStays : Type 0 where
       → region_step code page_words s event ≡ Some t → IsSound code t
 
 -- What the laws have in common: c is the record of goroutine g, one of the records that represent the goroutines of a state.
--- `slot_of` has the slot of each region, and `addresses` the address of each object.
+-- `slot_of` has the slot of each region, and `addresses` the address of each object. Both come from the image of memory.
 pub record Here : Type 0 where
   pub code : Code
   pub page_words : ℕ

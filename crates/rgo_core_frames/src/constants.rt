@@ -1,4 +1,5 @@
-//! That the constants of code have 64 bits: their type says it, and a walk over the code collects it.
+//! That the constants of code have 64 bits: the type of `Action` guarantees it for each one, and a walk over the code collects it. No law
+//! can know it without such a walk, since contracts see a constant as an integer of any size.
 
 ghost use Rattle.std.specs.Prelude.{IfSome, slice_get};
 ghost use Rattle.rgo_core_frames.specs.shown.Constants.{ActionFits, ConstantsFit, FnFits, InstrFits, OpFits};
@@ -66,7 +67,7 @@ fn function_fits(f: &TacFn)
     }
 }
 
-/// Each constant of the code is one of 64 bits. For callers that rely on this; it only walks over the instructions.
+/// Each constant of the code has 64 bits. It walks over the instructions and changes nothing, so it is called once, before a run.
 pub fn constants_fit(code: &Code)
     ensures { ConstantsFit code.now }
 {

@@ -1,4 +1,5 @@
-//! Operators on words. A word has no kind: what it stands for follows from the type of its variable, so these never ask.
+//! Operators on words. A word has no mark of its kind: what it means follows from the type of its variable, so no operator tests it.
+//! They are inlined always, because the loop over instructions is made of them.
 
 ghost use Rattle.std.specs.Prelude.{◌≡◌};
 ghost use Rattle.rgo_core_frames.specs.shown.Operators.{binary_on_words, negated_word, word_of};
@@ -6,7 +7,7 @@ ghost use Rattle.rgo_core_frames.specs.shown.Operators.{binary_on_words, negated
 use rgo_sound::ast::BinaryOp;
 use rgo_sound::memory::{Value, on_ints};
 
-/// The word of an int or of a bool.
+/// The word of an int or of a bool. Nil and objects do not come from operators; for them it is 0, so that the function is total.
 #[inline(always)]
 pub fn word(value: Value) -> u64
     ensures { result ≡ word_of value }
@@ -18,7 +19,8 @@ pub fn word(value: Value) -> u64
     }
 }
 
-/// The value of a binary operator for two words; none if it traps.
+/// The value of a binary operator for two words; none if it traps. Equality compares words of any type: two values of one type are
+/// equal exactly if their words are, since no two live objects share an address. All other operators are on ints.
 #[inline(always)]
 pub fn binary(op: BinaryOp, x: u64, y: u64) -> Option<u64>
     ensures { result ≡ binary_on_words op x y }

@@ -1,4 +1,5 @@
--- The first words are the image of the first state.
+-- The first words are the image of the first state. Every word is 0 but two, and 0 means free everywhere, so each part is nearly empty.
+-- Package variables need that the zero of each type is the word 0.
 use Rattle.std.proofs.Common.{◌≡◌, ℕ, zero, suc, ◌<◌, List, [], ◌∷◌, length, replicate, set, slice_index, Some, slice_get, refl, ap, sym, subst, ◌∙◌, inl, ⊎_elim, arith}
 use Rattle.std.proofs.lemmas.Option.{same_Some}
 use Rattle.rgo_sound.specs.Memory.Memory.{Object}

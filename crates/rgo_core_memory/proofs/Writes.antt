@@ -1,4 +1,5 @@
--- A word written into the list is that word changed, and no other.
+-- A word written into the list is that word changed, and no other. Here alone it matters that positions of different words differ. Rows
+-- follow one another, so for most pairs this is an inequality of sums; for two cells it needs a product.
 use Rattle.std.proofs.Common.{◌≡◌, ◌≢◌, ◌⊎◌, ℕ, zero, suc, ◌+◌, ◌*◌, ◌<◌, ◌≤◌, List, length, set, slice_index, refl, ap, sym, ◌∙◌, inl, inr, ⊎_elim, arith}
 use Rattle.std.proofs.Math.ListN.{length-set}
 use Rattle.std.proofs.Math.Nat.{mul-le-mul_right, suc-mul}
@@ -12,7 +13,7 @@ use Rattle.rgo_core_memory.proofs.Puts.{put_here, put_else}
 pub pages_apart : (p q s : ℕ) → p < q → p * s + s ≤ q * s
 pages_apart p q s h = let m : suc p * s ≤ q * s = mul-le-mul_right s (omega arith) in let e = suc-mul p s in omega arith
 
--- of two different numbers one is smaller
+-- one of two different numbers is smaller
 two_sides : (a b : ℕ) → a ≢ b → (a < b) ⊎ (b < a)
 two_sides zero zero ne = absurd (ne refl)
 two_sides zero (suc b) ne = inl (omega arith)
@@ -24,7 +25,7 @@ pub far : (p q s a b : ℕ) → p ≢ q → a < s → b < s → p * s + a ≢ q 
 far p q s a b ne ha hb e = ⊎_elim (λ u. let z = pages_apart p q s u in absurd (omega arith)) (λ u. let z = pages_apart q p s u in absurd
     (omega arith)) (two_sides p q ne)
 
--- a cell lies before the package variables
+-- a cell is before the package variables
 pub in_pages : (n p s a : ℕ) → p < n → a < s → p * s + a < n * s
 in_pages n p s a h l = let z = pages_apart p n s h in omega arith
 

@@ -1,4 +1,4 @@
--- The image, part by part, where a step leaves it as it was.
+-- The image, part by part, when a step leaves it as it was.
 pub mod Births
 pub mod Channels
 pub mod Elsewhere

@@ -1,4 +1,4 @@
--- New objects: their addresses, the stores of their words, and the allocation.
+-- New objects: their addresses, the stores of their words (`Zeroing`, `Strewing`), and the allocation, with the last one.
 pub mod Addresses
 pub mod Allocating
 pub mod Making

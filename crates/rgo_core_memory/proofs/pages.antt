@@ -1,4 +1,4 @@
--- Pages: claimed, filled, on chains, and given back.
+-- Pages: claimed, filled, on chains, and returned.
 pub mod Chaining
 pub mod Chains
 pub mod Claiming

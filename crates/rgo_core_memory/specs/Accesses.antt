@@ -1,4 +1,5 @@
--- A goroutine that is about to perform an action, and what loads and stores of cells do.
+-- A goroutine that is about to perform an action, and what loads and stores of cells do. These laws name the object and the number of
+-- the cell. Those of `Laws.antt` derive both from checked code.
 use Rattle.std.specs.Prelude.{◌≡◌, ℕ, suc, ◌<◌, List, [], ◌∷◌, length, pos, Option, Some, slice_get, slice_set, slice_index}
 use Rattle.rgo_sound.specs.Typed.declared.actions.Action.{Action}
 use Rattle.rgo_sound.specs.Typed.declared.actions.Action.TheVariants as action
@@ -16,7 +17,8 @@ use Rattle.rgo_core_memory.specs.Words.{variable_at}
 use Rattle.rgo_core_memory.specs.Records.{Rec}
 use Rattle.rgo_core_memory.specs.Image.{Where, StateImage, word_at, word_of_value}
 
--- goroutine g performs this action on these operands next
+-- Goroutine g performs this action on these operands next. Its record shows this. For loads and stores it stays so until the
+-- goroutine's own next access.
 pub record Before (code : Code) (s : RegionState) (g : ℕ) (action : Action) (values : List Value) : Type 0 where
   pub frame : TacFrame
   pub callers : List TacFrame
@@ -29,7 +31,7 @@ pub record Before (code : Code) (s : RegionState) (g : ℕ) (action : Action) (v
   pub is : instr.op ≡ Do to action from removes
   pub operands : operand_values frame from ≡ values
 
--- ---- stores: the word of the cell that the instruction writes becomes the value's
+-- ---- Stores: the word of the cell that the instruction writes becomes the value's, in the image of the state after it.
 
 abbrev pub StoreKeeps : Type 0
 StoreKeeps = (code : Code) (z : TableSizes) (words : List ℕ) (recs : List Rec) (s t : RegionState) (g o n : ℕ)
@@ -53,7 +55,7 @@ SetKeeps = (code : Code) (z : TableSizes) (words : List ℕ) (recs : List Rec) (
     → Before code s g (action.Set n) (v ∷ []) → n < length s.plain.memory.variables
     → StateImage z (slice_set words (variable_at z n) (word_of_value z places v)) recs t places
 
--- ---- loads: the word is the value's that the instruction reads
+-- ---- Loads: the word is that of the value that the instruction reads. The words stay, but the state steps.
 
 abbrev pub LoadReads : Type 0
 LoadReads = (code : Code) (z : TableSizes) (words : List ℕ) (recs : List Rec) (s t : RegionState) (g o n : ℕ)

@@ -1,4 +1,5 @@
--- What the stores of a new object's words keep: the last of them makes the object.
+-- What the stores of a new object's words keep: the last of them makes the object. Before it the state has no object there, so a
+-- goroutine that is stopped in the middle leaves words that no other one can reach.
 use Rattle.std.specs.Prelude.{◌≡◌, ◌⊎◌, ℕ, ◌+◌, ◌<◌, false, List, [], ◌∷◌, length, map, replicate, pos, Some, slice_get, slice_set}
 use Rattle.rgo_sound.specs.Typed.declared.actions.Action.TheVariants as action
 use Rattle.rgo_sound.specs.Typed.declared.programs.Struct.{Struct}
@@ -24,7 +25,7 @@ use Rattle.rgo_core_memory.specs.Spread.{lead_spot, spread_spot, spread_opening,
 use Rattle.rgo_core_memory.specs.Image.{Where, StateImage}
 use Rattle.rgo_core_memory.specs.Accesses.{Before}
 
--- the object that the goroutine makes next
+-- The object that the goroutine makes next. New objects hold no pointers, so their words do not depend on where objects are.
 abbrev pub MakesNext : (code : Code) (s : RegionState) (g : ℕ) (h : Holder) (r : Region) (object : Object) → Type 0
 MakesNext code s g h r object =
     ((n : ℕ) × (made : Struct) × (b : Before code s g (action.New n) []) × (slice_get code.structs n ≡ Some made)
@@ -37,7 +38,7 @@ MakesNext code s g h r object =
     × (object ≡ Channel n [] false)
     × (making_region (function_at code b.frame) (top_names h.environments) b.instr.op ≡ Some r))
 
--- a store before the last
+-- A store before the last. It may be of any word, also of one that was stored before.
 abbrev pub WordKeeps : Type 0
 WordKeeps = (z : TableSizes) (words : List ℕ) (recs : List Rec) (s : RegionState) (g i : ℕ) (c : Rec) (f : Fill)
     (object : Object) (stored : List ℕ)
@@ -45,7 +46,7 @@ WordKeeps = (z : TableSizes) (words : List ℕ) (recs : List Rec) (s : RegionSta
     → StateImage z (slice_set words (cell_at z f.page (f.fill + i)) (opening_word (content object i))) (slice_set recs g
     (with_word c f object (i ∷ stored))) s places
 
--- the same of a spread object: the word and the place are those of the reserved pages
+-- The same of a spread object, in the reserved pages. The numbers of its data pages are stored like other words.
 abbrev pub WordKeepsApart : Type 0
 WordKeepsApart = (z : TableSizes) (words : List ℕ) (recs : List Rec) (s : RegionState) (g i : ℕ) (c : Rec)
     (object : Object) (stored : List ℕ)
@@ -55,7 +56,7 @@ WordKeepsApart = (z : TableSizes) (words : List ℕ) (recs : List Rec) (s : Regi
     (spread_spot z.page_words object c.reserved.pages i).offset) (spread_opening object c.reserved.pages i))
     (slice_set recs g (with_word_apart c object (i ∷ stored))) s places
 
--- the last one
+-- The last one. The object's place is decided here: word i is at the fill of the own page plus i.
 abbrev pub AllocationKeeps : Type 0
 AllocationKeeps = (code : Code) (z : TableSizes) (words : List ℕ) (recs : List Rec) (s t : RegionState) (g i : ℕ)
     (h : Holder) (r : Region) (c : Rec) (f : Fill)

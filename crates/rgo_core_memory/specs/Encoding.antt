@@ -1,4 +1,5 @@
--- How values are encoded in words, and what each word of an object holds.
+-- How values are encoded in words, and what each word of an object holds. A word has no mark of its kind: what it means follows from
+-- the types of the code. So equal words of different types may be different values.
 use Rattle.std.specs.Prelude.{◌≡◌, ℕ, zero, suc, ◌+◌, ◌*◌, length, pos, Option, Some, None, slice_get}
 use Rattle.std.specs.Int.{w64, cast_unsigned, from_bool}
 use Rattle.rgo_sound.specs.Memory.declared.values.Value.{Value}
@@ -11,7 +12,8 @@ pub record Spot : Type 0 where
   pub page : ℕ
   pub offset : ℕ
 
--- the address of an object less one, by where objects begin: at their first word, or that of their lead page
+-- The address of an object, by where objects begin: at their first word, or at that of their lead page. A pointer is the address plus
+-- 1, so that nil can be 0.
 abbrev pub address : TableSizes → (ℕ → Spot) → ℕ → ℕ
 address z start o = (start o).page * z.page_words + (start o).offset
 
@@ -21,8 +23,8 @@ encode address (value.Bool b) = from_bool b
 encode address value.Nil = 0
 encode address (value.Object o) = suc (address o)
 
--- What a word of an object holds, if the object determines it. Of a channel's words it determines the capacity alone; the only
--- word of a struct without fields holds nothing.
+-- What a word of an object holds, if the object determines it. For a channel that is the capacity alone: its control and cells follow
+-- from who has locked it, too, and belong to the image of channels. The only word of a struct without fields holds nothing.
 abbrev pub content : Object → ℕ → Option Value
 content (StructObject cells) i = slice_get cells i
 content (SliceObject cells) zero = Some (value.Int (pos (length cells)))
@@ -31,14 +33,14 @@ content (Channel capacity queue closed) zero = None
 content (Channel capacity queue closed) (suc zero) = Some (value.Int (pos capacity))
 content (Channel capacity queue closed) (suc (suc i)) = None
 
--- a value other than a pointer
+-- a value other than a pointer: its word is the same wherever objects are
 abbrev pub IsPlain : Value → Type 0
 IsPlain (value.Int n) = Unit {0}
 IsPlain (value.Bool b) = Unit {0}
 IsPlain value.Nil = Unit {0}
 IsPlain (value.Object o) = ⊥
 
--- the first value of such a word
+-- The first value of such a word. A word of which the object says nothing begins with 0, which is an open, empty, unlocked channel.
 abbrev pub opening_word : Option Value → ℕ
 opening_word None = 0
 opening_word (Some v) = encode (λ o. 0) v

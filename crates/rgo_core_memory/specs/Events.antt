@@ -1,4 +1,5 @@
--- What the accesses to regions and pages keep, given the step of the region machine.
+-- What the accesses to regions and pages keep, given the step of the region machine. Each of these steps is a single access, so the
+-- words and the state change at the same moment.
 use Rattle.std.specs.Prelude.{◌≡◌, ◌≢◌, ◌⊎◌, ℕ, suc, ◌+◌, ◌-◌, ◌<◌, Bool, false, true, List, [], ◌∷◌, length, Some, slice_get, slice_set, slice_index, nat_eq}
 use Rattle.std.specs.List.{list_any}
 use Rattle.rgo_sound.specs.Memory.Memory.{Object}
@@ -22,7 +23,7 @@ use Rattle.rgo_core_memory.specs.Pages.{Claimed}
 use Rattle.rgo_core_memory.specs.Image.{Where, StateImage}
 use Rattle.rgo_core_memory.specs.Records.{with_reserved}
 
--- a region is created at a slot that was found free
+-- A region is created at a slot that was found free. Its count becomes 2: one stake.
 abbrev pub CreateKeeps : Type 0
 CreateKeeps = (code : Code) (z : TableSizes) (words : List ℕ) (recs : List Rec) (s t : RegionState) (g name r : ℕ)
     (h : Holder) (ds : List Duty)
@@ -32,7 +33,8 @@ CreateKeeps = (code : Code) (z : TableSizes) (words : List ℕ) (recs : List Rec
     → StateImage z (slice_set words (count_at z r) 2) recs t
     (record places { slot = put_at places.slot (length s.regions) r; uses = put_at places.uses r (Living (length s.regions)) })
 
--- a stake is taken for a goroutine that is about to start
+-- A stake is taken for a goroutine that is about to start, by the one that starts it: the new one's first step might come after the
+-- last stake of the others has ended. If one is pending already, no access is made.
 abbrev pub ShareKeeps : Type 0
 ShareKeeps = (code : Code) (z : TableSizes) (words : List ℕ) (recs : List Rec) (s t : RegionState) (g name j : ℕ)
     (h : Holder) (ds : List Duty)
@@ -51,12 +53,13 @@ Leaves h j =
     ⊎ ((ds : List Duty) × (h.duties ≡ EndBase (Numbered j) ∷ ds)
     × (guards (removed_once (Numbered j) h.base) h.environments (Numbered j) ≡ false))
 
--- the record has no page being claimed for the slot, and no object being made there
+-- The record has no page being claimed for the slot, and no object being made there. Without this a page could be hung on a chain that
+-- is being returned, or an object be made in a page that is free.
 abbrev pub IsFreeOf : Rec → ℕ → Type 0
 IsFreeOf c s = (Claims c.claim s → ⊥) × ((f : Fill) (object : Object) (stored : List ℕ)
     → c.make ≡ Amid f object stored → f.slot ≢ s)
 
--- a stake ends that was not the last
+-- A stake ends that was not the last. The goroutine's own page there stays on the chain, for whoever ends the last stake.
 abbrev pub LeaveKeeps : Type 0
 LeaveKeeps = (code : Code) (z : TableSizes) (words : List ℕ) (recs : List Rec) (s t : RegionState) (g j : ℕ)
     (h : Holder) (c : Rec)
@@ -67,7 +70,8 @@ LeaveKeeps = (code : Code) (z : TableSizes) (words : List ℕ) (recs : List Rec)
     → StateImage z (slice_set words (count_at z (places.slot j)) (slice_index words (count_at z (places.slot j)) - 1))
     (slice_set recs g (without_slot c (places.slot j))) t places
 
--- the last one ends: the region is removed, and its chain is to be returned
+-- The last one ends: the region is removed, and its chain is to be returned. Only one goroutine can find 2, so only one returns it. It
+-- must not be returning another one, since its record has room for one.
 abbrev pub LastLeaveKeeps : Type 0
 LastLeaveKeeps = (code : Code) (z : TableSizes) (words : List ℕ) (recs : List Rec) (s t : RegionState) (g j : ℕ)
     (h : Holder) (c : Rec)

@@ -1,4 +1,5 @@
--- When the region machine has the step of an access, an allocation or a claim.
+-- When the region machine has the step of an access, an allocation or a claim. The laws of accesses take the step as given. Here it
+-- follows from what is known of the goroutine, and from its code being checked.
 use Rattle.std.specs.Prelude.{◌≡◌, ℕ, ◌+◌, ◌<◌, ◌≤◌, false, true, List, [], length, Some, None, slice_get}
 use Rattle.rgo_sound.specs.Typed.declared.actions.Action.{Action}
 use Rattle.rgo_sound.specs.Code.Checked.{IsChecked}

@@ -1,4 +1,4 @@
--- What the crates above need of the image: addresses, bounds, what a search in vain says, and the words of channels.
+-- What the crates above need of the image: addresses, bounds, what follows from a search in vain, and the words of channels.
 use Rattle.std.specs.Prelude.{◌≡◌, ◌≢◌, ℕ, suc, ◌+◌, ◌/◌, ◌%◌, ◌<◌, ◌≤◌, false, true, List, length, None, slice_set, slice_index}
 use Rattle.rgo_sound.specs.Code.Code.{Code}
 use Rattle.rgo_sound.specs.Memory.Memory.{Object}
@@ -22,7 +22,8 @@ use Rattle.rgo_core_memory.specs.Image.{Where, MemoryImage, StateImage, word_at}
 abbrev pub StandsIn : RegionState → ℕ → Object → Region → Type 0
 StandsIn s o object r = IsLiveObject s.plain.memory.heap s.owners s.regions o object r
 
--- two live objects of one address are one
+-- Two live objects with the same address are the same. So an address in a record leads to one object, as long as the goroutine has a
+-- stake in its region.
 abbrev pub OneAddress : Type 0
 OneAddress = (z : TableSizes) (words : List ℕ) (recs : List Rec) (s : RegionState) (places : Where)
     → StateImage z words recs s places
@@ -49,36 +50,37 @@ SpreadFollows = (z : TableSizes) (words : List ℕ) (recs : List Rec) (s : Regio
     × ((i : ℕ) → i < cells object → word_at z places o (words_before object + i)
     ≡ cell_at z (slice_index pages (i / z.page_words + 1)) (i % z.page_words))
 
--- the count of a live region is small
+-- The count of a live region is small, so adding 1 to it never wraps around.
 abbrev pub CountIsSmall : Type 0
 CountIsSmall = (code : Code) (z : TableSizes) (words : List ℕ) (recs : List Rec) (s : RegionState) (places : Where)
     (j : ℕ) → AllGood code s → StateImage z words recs s places
     → is_live s.regions (Numbered j) ≡ true
     → slice_index words (count_at z (places.slot j)) ≤ suc (length s.holders + length s.holders)
 
--- if a call found every page claimed, at least as many were taken; if it found every slot in use, at least as many regions were
--- created
+-- If a call found every page claimed, at least as many were taken in the whole run; if it found every slot in use, at least as many
+-- regions were created. They were found at different moments, so nothing follows about one moment.
 abbrev pub AllFound : Type 0
 AllFound = (z : TableSizes) (words : List ℕ) (recs : List Rec) (s : RegionState) (places : Where)
     → StateImage z words recs s places → (g : ℕ) (c : Rec) → HasRecord recs g c
     → (((p : ℕ) → p < z.pages → 0 < occurrences p c.tried_pages) → z.pages ≤ taken_of (ground_of s))
     × (((r : ℕ) → r < z.slots → 0 < occurrences r c.tried_slots) → z.slots ≤ length s.regions)
 
--- where a page is free, fewer are in use than there are; where a slot is, fewer regions are live
+-- if a page is free, fewer pages are in use than there are; if a slot is free, fewer regions are live than there are slots
 abbrev pub SomeLeft : Type 0
 SomeLeft = (z : TableSizes) (words : List ℕ) (recs : List Rec) (s : RegionState) (places : Where)
     → StateImage z words recs s places
     → ((p : ℕ) → p < z.pages → slice_index words (state_at z p) ≡ 0 → pages_in_use s < z.pages)
     × ((r : ℕ) → r < z.slots → slice_index words (count_at z r) ≡ 0 → live_regions s < z.slots)
 
--- a word that the object does not determine may be written: any of a channel but its capacity
+-- A word that the object does not determine may be written: any word of a channel other than its capacity. These are accesses to
+-- controls and cells, whose meaning is in the image of channels.
 abbrev pub UntoldKeeps : Type 0
 UntoldKeeps = (z : TableSizes) (words : List ℕ) (recs : List Rec) (x : Ground) (places : Where)
     → MemoryImage z words recs x places → (o : ℕ) (object : Object) (r : Region)
     → IsLiveObject x.heap x.owners x.regions o object r → (i v : ℕ) → i < words_in object → content object i ≡ None
     → MemoryImage z (slice_set words (word_at z places o i) v) recs x places
 
--- and a channel may change in what its words do not say
+-- and the queue of a channel may change, as long as what its words determine stays
 abbrev pub QueueKeeps : Type 0
 QueueKeeps = (z : TableSizes) (words : List ℕ) (recs : List Rec) (x : Ground) (places : Where)
     → MemoryImage z words recs x places → (o : ℕ) (object : Object) (r : Region)

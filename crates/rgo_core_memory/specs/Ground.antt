@@ -1,4 +1,5 @@
--- What the memory of a table shows of a state of the region machine, and what steps do to it.
+-- What the memory of a table shows of a state of the region machine, and what steps do to it. The image is about this part alone, so a
+-- step that changes only frames, names or prints leaves it by an equation.
 use Rattle.std.specs.Prelude.{◌≡◌, ℕ, ◌+◌, ◌<◌, true, List, [], ◌∷◌, ◌++◌, length, map, Some, slice_get, slice_set}
 use Rattle.std.specs.Prelude.{sum_by}
 use Rattle.rgo_sound.specs.Memory.declared.values.Value.{Value}
@@ -114,12 +115,12 @@ left x g h k = record x {
   held = slice_set x.held g (record h { stakes = without k h.stakes });
 }
 
--- ---- what region safety says of it
+-- ---- what region safety guarantees of it
 
 pub record Steady (x : Ground) : Type 0 where
   -- each object has a region
   pub owned : length x.owners ≡ length x.heap
-  -- where a goroutine has a stake, the region is live
+  -- Where a goroutine has a stake, the region is live: by this a goroutine may use its own page without asking anybody.
   pub staked : (g k : ℕ) (h : Held) → slice_get x.held g ≡ Some h → is_in k h.stakes ≡ true
       → is_live x.regions (Numbered k) ≡ true
   -- pointers lead to objects that were made

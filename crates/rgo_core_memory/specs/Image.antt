@@ -1,4 +1,5 @@
--- The image: which state of the region machine words and records show.
+-- The image: which state of the region machine words and records show. Each part relates a few rows of words with the records that
+-- explain them, so that an access has to be checked against the parts that read its word.
 use Rattle.std.specs.Prelude.{ℕ, List, length}
 use Rattle.rgo_sound.specs.RegionMachine.States.{RegionState}
 use Rattle.rgo_core_memory.specs.declared.layout.TableSizes.{TableSizes}
@@ -10,7 +11,7 @@ use Rattle.rgo_core_memory.specs.Ground.{Ground, ground_of, taken_of}
 use Rattle.rgo_core_memory.specs.Pages.{Place, Pages}
 use Rattle.rgo_core_memory.specs.Parts.{Lies, Own, OwnPagesFilled, Use, SlotCounts, Paged, Taken}
 
--- what the words and records do not say
+-- What the words and records do not show. It exists in proofs only, and each law names how its access changes it.
 pub record Where : Type 0 where
   -- the slot of each region that was made, and what each slot is used for
   pub slot : ℕ → ℕ
@@ -19,7 +20,8 @@ pub record Where : Type 0 where
   pub spot : ℕ → ℕ → Spot
   -- where each object begins
   pub start : ℕ → Spot
-  -- where each page is, the pages of each chain, the true next of each page and head of each chain
+  -- Where each page is, the pages of each chain, the true next page of each page and the true head of each chain. These are in words
+  -- except while a goroutine is at work on them. Then they are in its record.
   pub at : ℕ → Place
   pub chain : ℕ → List ℕ
   pub link : ℕ → ℕ

@@ -1,5 +1,5 @@
--- Loads and stores of fields, elements, lengths and package variables. The code is checked, so that the object exists and has the
--- field by its types.
+-- Loads and stores of fields, elements, lengths and package variables. The code is checked, so by its types the object exists and has
+-- the field. Only the index of an element is left to be compared with the length when the code runs.
 use Rattle.std.specs.Prelude.{◌≡◌, ℕ, suc, ◌<◌, pos, Ok, List, [], ◌∷◌, Some, slice_get, slice_set, slice_index}
 use Rattle.rgo_sound.specs.Typed.declared.actions.Action.TheVariants as action
 use Rattle.rgo_sound.specs.Code.Checked.{IsChecked}
@@ -56,7 +56,7 @@ SetLaw = (code : Code) (z : TableSizes) (words : List ℕ) (recs : List Rec) (s 
     → Before code s g (action.Set n) (v ∷ [])
     → StateImage z (slice_set words (variable_at z n) (word_of_value z places v)) recs t places
 
--- an element of a slice, within its length
+-- An element of a slice, within its length. The length may have been loaded earlier: it never changes.
 abbrev pub AtLaw : Type 0
 AtLaw = (code : Code) (z : TableSizes) (words : List ℕ) (recs : List Rec) (s t : RegionState) (g o n m : ℕ)
     (places : Where) → IsChecked code → AllGood code s

@@ -9,7 +9,8 @@ use Rattle.rgo_core_memory.specs.Image.{Where, StateImage}
 use Rattle.rgo_core_memory.specs.Pages.{Free}
 use Rattle.rgo_core_memory.specs.Parts.{Vacant}
 
--- nothing is drawn, `main` is made, no page is claimed, no slot is used, and Global's count is 2
+-- No ticket is drawn, `main` is counted, no page is claimed, no slot is in use. Global's count is 2, a stake that never ends, so that
+-- its chain is never returned.
 abbrev pub first_words : TableSizes → List ℕ
 first_words z = slice_set (slice_set (replicate (all_words z) 0) made_at 1) (count_at z z.slots) 2
 

@@ -1,4 +1,5 @@
--- The pages that chains have still to free: the end of a last stake adds those of the region, and each freed page is one less.
+-- The pages that chains have still to free: the end of a last stake adds those of the region, and each freed page is one less. The
+-- region machine returns all pages of a region in one step, and a goroutine one by one. This number is the difference.
 use Rattle.std.specs.Prelude.{◌≡◌, ◌≢◌, ℕ, zero, suc, ◌+◌, ◌<◌, List, Some, slice_get, slice_set, slice_index}
 use Rattle.rgo_sound.specs.Code.Code.{Code}
 use Rattle.rgo_sound.specs.RegionMachine.Regions.{RegionInfo}
@@ -10,13 +11,13 @@ use Rattle.rgo_core_memory.specs.Records.{Past, Gave, Rec, HasRecord}
 use Rattle.rgo_core_memory.specs.Parts.{Use, Vacant, Living, Closing, pages_at}
 use Rattle.rgo_core_memory.specs.Image.{Where, StateImage}
 
--- of a slot with n pages
+-- for a slot with n pages: those of a live region are not to be freed
 abbrev pub owed_at : Use → ℕ → ℕ
 owed_at Vacant n = 0
 owed_at (Living k) n = 0
 owed_at (Closing g) n = n
 
--- of the first n slots
+-- for the first n slots
 abbrev pub owed : (ℕ → Use) → (ℕ → ℕ) → ℕ → ℕ → ℕ
 owed uses states pages zero = 0
 owed uses states pages (suc n) = owed_at (uses n) (pages_at states pages n) + owed uses states pages n
@@ -40,7 +41,7 @@ pub record StillOwed : Type 0 where
       → (g r : ℕ) (c : Rec) → HasRecord recs g c → c.give ≡ Gave r
       → to_free z (slice_set words (count_at z r) 0) (put_at places.uses r Vacant) ≡ to_free z words places.uses
 
--- ---- slot by slot
+-- ---- Slot by slot: a goroutine knows only its own slot, and others claim and free pages of theirs at the same time.
 
 -- how many pages are claimed for a slot
 abbrev pub claimed_for : TableSizes → List ℕ → (slot : ℕ) → ℕ

@@ -1,4 +1,5 @@
--- Steps of the region machine that change no word of memory, and the start of a goroutine.
+-- Steps of the region machine that change no word of memory, and the start of a goroutine. Those at channels are among them, since
+-- the words of channels are determined by the image of channels.
 use Rattle.std.specs.Prelude.{◌≡◌, ℕ, true, List, [], ◌∷◌, ◌++◌, Some, slice_get, nat_eq}
 use Rattle.std.specs.List.{list_any}
 use Rattle.rgo_sound.specs.Code.Code.{Branch, Call, Code, CodeInstr, CodeOp, Do, Go, Jump, Print, Return}
@@ -16,17 +17,17 @@ use Rattle.rgo_core_memory.specs.Records.{Rec}
 use Rattle.rgo_core_memory.specs.Opening.{first_record}
 use Rattle.rgo_core_memory.specs.Image.{Where, StateImage}
 
--- a region that is Global, or that the goroutine protects
+-- A region that is Global, or that the goroutine protects: the end of a name then ends no stake.
 abbrev pub Spared : Holder → Region → Type 0
 Spared h GlobalRegion = Unit {0}
 Spared h (Numbered j) = guards h.base h.environments (Numbered j) ≡ true
 
--- a region that is Global, or in which a stake is pending
+-- A region that is Global, or in which a stake is pending: the child needs no second one.
 abbrev pub HasPending : Holder → Region → Type 0
 HasPending h GlobalRegion = Unit {0}
 HasPending h (Numbered j) = list_any (nat_eq j) h.pending ≡ true
 
--- a duty that changes no stake
+-- a duty that changes no count
 abbrev pub QuietDuty : Holder → Duty → Type 0
 QuietDuty h (Create k) = ⊥
 QuietDuty h (Share k) = (r : Region) × (bound (top_names h.environments) k ≡ Some r) × HasPending h r
@@ -63,7 +64,8 @@ QuietKeeps = (code : Code) (z : TableSizes) (words : List ℕ) (recs : List Rec)
     (places : Where) → StateImage z words recs s places
     → region_step code z.page_words s e ≡ Some t → IsQuiet code s t e → StateImage z words recs t places
 
--- a goroutine starts, whose record has nothing of memory yet
+-- A goroutine starts, whose record has nothing of memory yet. Its stakes were shared before, and are now its own in the state: no count
+-- changes with its start.
 abbrev pub StartKeeps : Type 0
 StartKeeps = (code : Code) (z : TableSizes) (words : List ℕ) (recs : List Rec) (s t : RegionState) (g : ℕ)
     (places : Where) → StateImage z words recs s places

@@ -1,5 +1,5 @@
 -- What the record of a goroutine has of memory: its own pages, the object that it makes, the page that it claims, and the
--- chain that it returns.
+-- chain that it returns. These are the places where words alone are not enough: what a goroutine has done by halves is in its record.
 use Rattle.std.specs.Prelude.{◌≡◌, ℕ, List, [], ◌∷◌, ◌++◌, Option, None, Some, slice_get, nat_eq, if◌then◌else◌}
 use Rattle.rgo_sound.specs.Memory.Memory.{Object}
 
@@ -21,7 +21,8 @@ pub data Make : Type 0 where
   Amid : (fill : Fill) (object : Object) (stored : List ℕ) → Make
   Across : (object : Object) (stored : List ℕ) → Make
 
--- nothing; a page that is claimed for a slot; or one that was put at its head before `old`, with its next word not yet stored
+-- Nothing; a page that is claimed for a slot; or one that was put at its head before `old`, with its next word not yet stored. A
+-- goroutine must finish this before it ends its stake there.
 pub data PageClaim : Type 0 where
   Idle : PageClaim
   Got : (page slot : ℕ) → PageClaim
@@ -36,8 +37,8 @@ pub data Give : Type 0 where
   Past : (slot cursor next : ℕ) → Give
   Gave : (slot : ℕ) → Give
 
--- The number of elements of a slice, read from its first word, which has this address. `steps` says how many instructions the goroutine
--- had made by then: after the next one, the slice may be another.
+-- The number of elements of a slice, read from its first word, which has this address. `steps` is how many instructions the goroutine
+-- had made by then. After the next one its region may be gone and another slice have this address.
 pub record Measured : Type 0 where
   pub address : ℕ
   pub elements : ℕ
@@ -56,7 +57,7 @@ pub record Rec : Type 0 where
   pub make : Make
   pub claim : PageClaim
   pub give : Give
-  -- the page states and the counts that its call found not 0
+  -- the page states and the counts that its current search has found not 0
   pub tried_pages : List ℕ
   pub tried_slots : List ℕ
   -- the slice whose length it has read last
@@ -97,7 +98,7 @@ Claims Idle r = ⊥
 Claims (Got p s) r = s ≡ r
 Claims (Hung p s o) r = s ≡ r
 
--- ---- what steps do to a record
+-- ---- What accesses do to a record: each of these is the record after one access, as a function of what the access found.
 
 -- the first own page of a slot
 abbrev pub page_of : (slot : ℕ) → List Fill → Option Fill

@@ -2,7 +2,8 @@
 use Rattle.std.specs.Prelude.{◌≡◌, ℕ, suc, ◌+◌, ◌*◌, ◌<◌, ◌==◌, List, length, slice_index, if◌then◌else◌}
 use Rattle.rgo_core_memory.specs.declared.layout.TableSizes.{TableSizes}
 
--- The words, each kind numbered on its own. A cell is a word of a page, by its offset there.
+-- The words, each kind numbered on its own. A cell is a word of a page, by its offset there. Laws are proved of these functions, and
+-- only `Writes` in the proofs knows that positions differ.
 pub record Words : Type 0 where
   pub clock : ℕ
   pub made : ℕ
@@ -57,7 +58,7 @@ variable_at z n = base z + (z.pages * z.page_words + n)
 abbrev pub all_words : TableSizes → ℕ
 all_words z = base z + (z.pages * z.page_words + z.variables)
 
--- the list has these words
+-- The list has these words. Each field is bounded, since beyond its row the position is that of another kind.
 pub record ListHasWords (z : TableSizes) (words : List ℕ) (w : Words) : Type 0 where
   pub wide : length words ≡ all_words z
   pub clock : slice_index words clock_at ≡ w.clock

@@ -1,4 +1,6 @@
-//! What each atomic access to the table's memory keeps.
+//! What each atomic access to the table's memory keeps. A law is about one state: it takes the image of a state, and returns the image
+//! of the state after the access. Some accesses are a step of the region machine. Others, such as those to chains and all opening
+//! stores but the last, prepare or finish one: these leave the state as it is.
 
 ghost use Rattle.rgo_core_memory.specs.Allocations.{AllocationKeeps, AllocationKeepsApart, WordKeeps, WordKeepsApart};
 ghost use Rattle.rgo_core_memory.specs.Chains.{ClearKeeps, ForgetKeeps, FreeKeeps, HangKeeps, HeadKeeps, LinkKeeps, LocatedKeeps, MeasuredKeeps, NextKeeps, SlotKeeps, TriedPageKeeps, TriedSlotKeeps};
@@ -13,7 +15,7 @@ ghost use Rattle.rgo_core_memory.specs.Exists.{AccessExists, AllocationExists, A
 ghost use Rattle.rgo_core_memory.specs.Facts.{WordsDiffer};
 ghost use Rattle.rgo_core_memory.specs.Owed.{StillClaimed, StillOwed};
 
-/// A load of a field reads what the instruction reads.
+/// A load of a field reads what the instruction reads. The object exists and has the field, since the code is checked.
 pub fn load_law()
     ensures { MemoryLoadLaw }
 {}
@@ -23,7 +25,8 @@ pub fn at_law()
     ensures { AtLaw }
 {}
 
-/// A load of the first word of a slice reads its length.
+/// A load of the first word of a slice reads its length. The length never changes, but the word may serve another object once the
+/// region is gone: the record remembers the length only up to the next instruction.
 pub fn len_law()
     ensures { LenLaw }
 {}
@@ -33,7 +36,8 @@ pub fn get_law()
     ensures { GetLaw }
 {}
 
-/// A store of a field is the instruction.
+/// A store of a field is the instruction. Other goroutines may load or store the same word before and after it: each of these is an
+/// instruction of its own, and the order of accesses is that of the instructions.
 pub fn store_law()
     ensures { StoreLaw }
 {}
@@ -48,7 +52,8 @@ pub fn set_law()
     ensures { SetLaw }
 {}
 
-/// An opening store before the last changes nothing of the region machine.
+/// An opening store before the last changes nothing of the region machine: nobody has a pointer to the object yet, and its words are
+/// above what is filled of an own page, where no object is.
 pub fn word_law()
     ensures { WordKeeps }
 {}
@@ -58,7 +63,7 @@ pub fn word_apart_law()
     ensures { WordKeepsApart }
 {}
 
-/// The last opening store is the instruction that makes the object.
+/// The last opening store is the instruction that makes the object, whichever word it is: the record knows which are stored.
 pub fn allocation_law()
     ensures { AllocationKeeps }
 {}
@@ -68,7 +73,8 @@ pub fn allocation_apart_law()
     ensures { AllocationKeepsApart }
 {}
 
-/// The exchange of a free page state takes a page.
+/// The exchange that found a page state 0 takes the page, by a step of its own before the instruction that makes the object. From
+/// then on only this goroutine changes the state, until the chain of its slot is returned.
 pub fn page_law()
     ensures { PageKeeps }
 {}
@@ -78,67 +84,72 @@ pub fn reserved_page_law()
     ensures { ReservedPageKeeps }
 {}
 
-/// A page was found claimed.
+/// An exchange has found a page claimed, and has changed nothing. The record remembers it, since a page that was found claimed was taken
+/// by some earlier step: with all pages in the record, the run has taken at least as many.
 pub fn tried_page_law()
     ensures { TriedPageKeeps }
 {}
 
-/// A claimed page becomes the head of its chain.
+/// A claimed page becomes the head of its chain, by a swap that cannot fail. Other goroutines with a stake may swap in theirs before
+/// and after it. What was found is the next page, which only the claimer knows until it is stored.
 pub fn hang_law()
     ensures { HangKeeps }
 {}
 
-/// Its next word is stored.
+/// Its next word is stored. Nobody has loaded it in between: a chain is read only when no stake is left, and the claimer has one.
 pub fn link_law()
     ensures { LinkKeeps }
 {}
 
-/// The exchange of a free count creates a region.
+/// The exchange that found a count 0 creates a region: from 0 to 2, which is one stake.
 pub fn create_law()
     ensures { CreateKeeps }
 {}
 
-/// A slot was found used.
+/// An exchange has found a slot in use, and has changed nothing. As with pages, the record remembers it.
 pub fn tried_slot_law()
     ensures { TriedSlotKeeps }
 {}
 
-/// A count with one added is a stake more.
+/// A count with one added has one stake more. It may be done only by a goroutine with a stake there, so the count is at least 2 before
+/// it, and the region cannot go in between.
 pub fn share_law()
     ensures { ShareKeeps }
 {}
 
-/// A count with one taken away is the end of a stake.
+/// A count with one subtracted has one stake less. If more than 2 was found, others have stakes and keep the region alive.
 pub fn leave_law()
     ensures { LeaveKeeps }
 {}
 
-/// The end of the last stake removes the region.
+/// The subtraction that found 2 ends the last stake and removes the region. The count is then 1, which no creation takes, so the
+/// slot is this goroutine's alone until it has returned the chain.
 pub fn last_leave_law()
     ensures { LastLeaveKeeps }
 {}
 
-/// The head of a chain that is being returned is loaded.
+/// The head of a chain that is being returned is loaded. No stake is left, so no page is being hung there any more.
 pub fn head_law()
     ensures { HeadKeeps }
 {}
 
-/// A page's next word is loaded.
+/// A page's next word is loaded, before the page is freed: afterwards another goroutine may claim it and store another one.
 pub fn next_law()
     ensures { NextKeeps }
 {}
 
-/// A page is free again.
+/// A page's state is stored as 0. From this access on any goroutine may claim it, so it is off the chain with the same access.
 pub fn free_law()
     ensures { FreeKeeps }
 {}
 
-/// The head is cleared.
+/// The head is cleared, when the last page is free. Nobody else reads it in between, so once is enough.
 pub fn clear_law()
     ensures { ClearKeeps }
 {}
 
-/// The slot is free again.
+/// The count is stored as 0, as the last access of a return: from here on another goroutine may create a region in the slot, whose
+/// chain must be empty.
 pub fn slot_law()
     ensures { SlotKeeps }
 {}
@@ -148,17 +159,19 @@ pub fn opening_law()
     ensures { Opens }
 {}
 
-/// A step that changes no word of memory.
+/// Steps of the region machine that change no word of memory: local steps, which need no access, and those at channels and at the
+/// clock, whose words are not those of memory.
 pub fn quiet_law()
     ensures { QuietKeeps }
 {}
 
-/// A goroutine starts, and its record has nothing of memory.
+/// A goroutine starts, and its record has nothing of memory. Its stakes are counted already: the goroutine that starts it has shared
+/// them before.
 pub fn start_law()
     ensures { StartKeeps }
 {}
 
-/// Each live object has an address of its own.
+/// Each live object has an address of its own. This does not hold for all objects: the words of a removed region serve again.
 pub fn address_law()
     ensures { OneAddress }
 {}
@@ -168,22 +181,24 @@ pub fn row_law()
     ensures { WordsFollow }
 {}
 
-/// If a page is free, fewer are in use than there are; the same of slots.
+/// If a page is free at some moment, fewer than all are in use; the same of slots. With `found_law` it makes a lack of room exact.
 pub fn left_law()
     ensures { SomeLeft }
 {}
 
-/// A count has at most two stakes for each goroutine.
+/// A count has at most two stakes for each goroutine: its own, and one that it has taken for a goroutine that it is about to start. So
+/// a count never wraps around.
 pub fn count_law()
     ensures { CountIsSmall }
 {}
 
-/// A search that found everything used says how much was taken.
+/// If a search has found everything in use, at least that many pages were taken, or regions created, in the whole run. It found them
+/// at different moments, so it does not follow that all were in use at once.
 pub fn found_law()
     ensures { AllFound }
 {}
 
-/// A word of a channel but its capacity may be written.
+/// A word of a channel other than its capacity may be written: memory says nothing of it, and the image of channels says the rest.
 pub fn untold_law()
     ensures { UntoldKeeps }
 {}
@@ -193,7 +208,7 @@ pub fn queue_law()
     ensures { QueueKeeps }
 {}
 
-/// The region machine has the step of an access.
+/// The region machine has the step of an access. The laws above take the step as a premise. These laws show that it exists.
 pub fn access_exists_law()
     ensures { AccessExists }
 {}
@@ -208,17 +223,18 @@ pub fn page_exists_law()
     ensures { PageExists }
 {}
 
-/// No two words of objects are one.
+/// No two words of live objects are the same, nor a word of an object and one above the fill of an own page. So a store to one of them
+/// leaves all others.
 pub fn differ_law()
     ensures { WordsDiffer }
 {}
 
-/// A call begins.
+/// A call begins, and forgets what the last one has found in use: these places may have become free since.
 pub fn forget_law()
     ensures { ForgetKeeps }
 {}
 
-/// What chains have still to free.
+/// What chains have still to free. A record counts it down, so that the loop that returns a chain ends.
 pub fn owed_law()
     ensures { StillOwed }
 {}
@@ -228,7 +244,7 @@ pub fn claimed_law()
     ensures { StillClaimed }
 {}
 
-/// The length of a slice was read.
+/// The record notes a length that it has read. Any number may be noted here. That it is right comes from `len_law`.
 pub fn measured_law()
     ensures { MeasuredKeeps }
 {}
@@ -248,7 +264,7 @@ pub fn number_law()
     ensures { NumberKeeps }
 {}
 
-/// A step that leaves what memory shows of the state.
+/// The image depends on a state only through what memory shows of it (`Ground`). So steps elsewhere need no proof here.
 pub fn ground_law()
     ensures { GroundKeeps }
 {}
@@ -268,7 +284,7 @@ pub fn allocation_exists_apart_law()
     ensures { AllocationExistsApart }
 {}
 
-/// Before that, a page can be taken for it.
+/// As long as it has too few pages reserved, another one can be taken for it.
 pub fn reserved_page_exists_law()
     ensures { ReservedPageExists }
 {}

@@ -1,4 +1,5 @@
--- An account of a history that is longer by one access.
+-- An account of a history that is longer by one access. All conjuncts but `moments` follow from those of the shorter history at
+-- once. For a moment k the question is whether it is before the new access or after it.
 use Rattle.std.proofs.Common.{◌≡◌, ℕ, ◌<◌, ◌≤◌, ◌⊎◌, inl, inr, List, [], ◌∷◌, ◌++◌, Some, None, length, set, slice_index, take, ap, sym, subst, ◌∙◌, arith, length-append}
 use mathlib.Core.Logic.{dite}
 use mathlib.Core.Option.{some}

@@ -1,4 +1,5 @@
--- The laws of the machine that adds.
+-- The laws of the machine that adds: each conjunct of its explanation after each kind of event. The hard one is the draw, whose two
+-- outcomes come from one comparison of the number found with the limit.
 use Rattle.std.proofs.Common.{◌≡◌, ℕ, zero, suc, ◌+◌, ◌%◌, ◌<◌, ◌≤◌, ◌⊎◌, inl, inr, ◌≢◌, ◌==◌, min, cond, Bool, true, false, List, [], ◌∷◌, ◌++◌, Some, None, length, set, slice_index, count_by, refl, ap, sym, ◌∙◌, ⊎_elim, arith, length-append}
 use mathlib.Core.Logic.{dite}
 use mathlib.Core.Option.{some, some-injective, some-ne-none}
@@ -285,7 +286,7 @@ first_counts limit low high = record {
     zero_of f z zero y e = ap f (sym (some-injective new_adder y e)) ∙ z
     zero_of f z (suc h) y e = absurd (some-ne-none y (sym e))
 
--- what a draw told is what `start` says
+-- what is known after a draw is what `start` promises
 abbrev pub Drew : ℕ → Me Adder → ℕ → Me Adder → Type 0
 Drew limit m n w =
     Told accesses (number_of m) DrawNumber 1 (λ n. (n + 1) % 18446744073709551616) (λ n d. (limit ≤ n) × (d ≡ drew (record_of new_adder m))) m n w

@@ -1,4 +1,5 @@
--- What views have seen, when one changes, one is added, or the history is longer.
+-- What views have seen, when one changes, one is added, or the history is longer. A view that has seen a beginning of a history has
+-- seen a beginning of a longer one, so only the view of the seat that acts needs a proof.
 use Rattle.std.proofs.Common.{◌≡◌, ℕ, suc, ◌<◌, ◌≤◌, ◌≢◌, List, [], ◌∷◌, ◌++◌, Some, length, set, ap, sym, subst, ◌∙◌, ⊎_elim, arith}
 use mathlib.Core.Option.{some}
 use mathlib.Core.List.{IsPrefix}

@@ -1,4 +1,5 @@
--- Histories: what a longer one replays, and whose accesses it has.
+-- Histories: what a longer one replays, and whose accesses it has. Counting accesses of a goroutine is a sum, so it splits at every
+-- append. From equal sums follows that the part that a seat has not seen has none of its own.
 use Rattle.std.proofs.Common.{◌≡◌, ℕ, zero, suc, ◌+◌, ◌<◌, ◌≤◌, ◌≢◌, ◌==◌, cond, ltb, Bool, true, false, List, [], ◌∷◌, ◌++◌, Option, Some, None, length, set, slice_index, if◌then◌else◌, refl, ap, sym, ◌∙◌, arith, append_assoc}
 use mathlib.Core.Option.{some, some-injective, some-ne-none}
 use mathlib.Core.List.{IsPrefix}
@@ -89,7 +90,7 @@ pub by_prefix : (g : ℕ) (xs history : List Access) → IsPrefix xs history →
 by_prefix g xs history p = let a = by_append g xs p.0 in let e : accesses_by g (xs ++ p.0) ≡ accesses_by g history = ap
     (accesses_by g) p.1 in omega arith
 
--- ---- of two beginnings of one history the longer has the accesses of both
+-- ---- the longer of two beginnings of one history has the accesses of both
 
 abbrev tail_of : List Access → List Access
 tail_of [] = []

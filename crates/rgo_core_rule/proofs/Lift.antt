@@ -1,4 +1,6 @@
--- An access that a goroutine may make is one that the table allows its seat.
+-- An access that a goroutine may make is one that the table allows its seat. `lift_at` is the one place where a law meets the rule,
+-- in one state of the table. The other lemmas quantify over all states, as the table requires. The two outcomes of a draw are
+-- decided in that state, so both need no lemma of their own there.
 use Rattle.std.proofs.Common.{◌≡◌, ℕ, suc, ◌⊎◌, ◌==◌, if◌then◌else◌, List, [], ◌∷◌, ◌++◌, Some, None, length, set, slice_index, refl, ap, sym, subst, ◌∙◌, inl, inr, ⊎_elim, arith, length-append}
 use mathlib.Core.Option.{some}
 use lib.ListN.{get_elem?}
@@ -25,7 +27,7 @@ module _ {E R : Type 0} (accesses : R → ℕ) (Explains : List ℕ → List R �
   abbrev pub Holds : TableState R → Type 0
   Holds = Explained accesses Explains opening
 
-  -- what the table asks of a step, in one of its states
+  -- what the table requires of a step, in one of its states
   abbrev pub AllowsAt : (s : TableState R) → ℕ → Me R → ℕ → (ℕ → ℕ) → (ℕ → Me R → Type 0) → Type 0
   AllowsAt s id m i f told =
       (w : View R) × (a : table.Act (Unit {0})) × table.Valid s.homes m.1 a
@@ -59,7 +61,7 @@ module _ {E R : Type 0} (accesses : R → ℕ) (Explains : List ℕ → List R �
     pub its_record : get_elem? kept.recs g ≡ some c
     its_record = (its s.views kept.recs kept.owner kept.owned id g c m.0 at alone.0).1
 
-    -- of what came since the seat last looked, nothing is its own
+    -- Since its last access no access of its own was made: the record counts as many in the whole history as in what the seat has seen.
     others : accesses_by g (kept.aware.seen id m.0 at).0 ≡ 0
     others =
         let p = kept.aware.seen id m.0 at in
@@ -168,7 +170,7 @@ module _ {E R : Type 0} (accesses : R → ℕ) (Explains : List ℕ → List R �
   lifts cells id g c m i f tells kind alone move s kept homes at fits = lift_at s kept id g c m i f kind alone at tells (move s.words kept.recs
       (flattened kept.account.gains) kept.account.explains (its_record s kept id g c m i f kind alone at) fits)
 
-  -- the same of a store, of which it is not told what was found
+  -- the same of a store, which does not show what was found
   pub untold : (cells id g : ℕ) (c : R) (m : Me R) (i : ℕ) (f : ℕ → ℕ) (tells : ℕ → R → Type 0) (kind : Kind) → Alone g c m
       → Move accesses Explains g c i f tells
       → table.Allows Holds cells id m i f (λ _ w. (n : ℕ) × Told accesses g kind i f tells m n w)

@@ -1,4 +1,5 @@
--- Seats that are split and joined, the first seat, and the last.
+-- Seats that are split and joined, the first seat, and the last. Each adds a load of word 0 to the history, with nothing in the
+-- run. `joins_as` proves all joins at once: it is enough that the list that stays covers both (`Covers`).
 use Rattle.std.proofs.Common.{◌≡◌, ℕ, zero, suc, ◌≤◌, List, [], ◌∷◌, ◌++◌, set, slice_index, take, refl, ap, sym, subst, ◌∙◌, ⊎_elim, arith}
 use mathlib.Core.Option.{some, some-injective, some-ne-none}
 use mathlib.Core.List.{IsPrefix}
@@ -57,7 +58,7 @@ module _ {E R : Type 0} (accesses : R → ℕ) (Explains : List ℕ → List R �
             (seen_more v.seen kept.history a (kept.aware.seen id v at)) (λ h x own. absurd (none h x own));
       })
 
-  -- what a view that takes in another may have seen: a beginning of the history with all that either had seen of anyone
+  -- what a view may have seen after a join: a beginning of the history with all accesses of any goroutine that either view had
   abbrev Covers : List Access → List Access → List Access → Type 0
   Covers xs ys zs = (history : List Access) → IsPrefix xs history → IsPrefix ys history
       → IsPrefix zs history × ((g : ℕ) → accesses_by g xs ≡ accesses_by g history → accesses_by g zs ≡ accesses_by g history)

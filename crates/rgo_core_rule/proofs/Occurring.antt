@@ -1,4 +1,5 @@
--- The record after an access, or after a change without one, is possible.
+-- The record after an access, or after a change without one, is possible. The law has this already: it leads to an explained table
+-- that has the record. It has to be kept with what the access tells (`Also`), since afterwards that table is gone.
 use Rattle.std.proofs.Common.{◌⊎◌, ℕ, List, [], ◌∷◌, ◌++◌, set, inl, inr, ⊎_elim, ap, sym, subst, ◌∙◌}
 use Rattle.std.proofs.Math.ListN.{length-set}
 use Rattle.atomic_table.proofs.Lists.{at_last, at_longer, set_here}
@@ -9,7 +10,7 @@ use Rattle.rgo_core_rule.proofs.Lists.{at_below}
 use Rattle.rgo_core_rule.proofs.Rows.{first, none}
 
 module _ {E R : Type 0} (accesses : R → ℕ) (Explains : List ℕ → List R → List E → Type 0) where
-  -- what is told of every access: this, and that the record after it is possible
+  -- what holds after every access: this, and that the record after it is possible
   abbrev pub Also : ℕ → (ℕ → R → Type 0) → ℕ → R → Type 0
   Also g tells n d = tells n d × Occurs Explains g d
 

@@ -1,4 +1,5 @@
--- Who has which record, after a step and when views are cut and joined.
+-- Which seat has which record, after an access and when views are cut and joined. Only the views of the seats that act change. For
+-- another view it is enough that it does not have a row of their goroutines, by the old owner.
 use Rattle.std.proofs.Common.{◌≡◌, ℕ, ◌<◌, ◌≢◌, ◌⊎◌, ◌==◌, List, [], ◌∷◌, ◌++◌, length, set, if◌then◌else◌, refl, ap, sym, subst, ◌∙◌, inl, inr, ⊎_elim, arith}
 use mathlib.Core.Logic.{dite}
 use native.Mathlib.Decide.{ℕ_discrete}
@@ -60,7 +61,7 @@ module _ {R : Type 0} where
             (at_set recs g h d x q);
       }
 
-      -- the same where goroutine n begins, with the record `child`
+      -- the same if goroutine n begins, with the record `child`
       pub owned_child : (n : ℕ) (child : R) → n ≡ length recs → w.records ≡ (g, d) ∷ (n, child) ∷ []
           → Owned (set views id w) (set recs g d ++ child ∷ []) (λ h. if h == n then id else owner h)
       owned_child n child is new = record {

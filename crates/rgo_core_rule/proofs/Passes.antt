@@ -1,4 +1,5 @@
--- Passes through lists of what others have seen.
+-- Passes through lists of what others have seen. By induction over the goroutines, with the driver's list getting longer: in the
+-- second pass it is at least as long as each, so it never changes.
 use Rattle.std.proofs.Common.{◌≡◌, ℕ, zero, suc, ◌<◌, ◌≤◌, ltb, Bool, true, false, List, [], ◌∷◌, ◌++◌, length, if◌then◌else◌, refl, ap, sym, ◌∙◌, arith, length-append}
 use mathlib.Core.Option.{some, some-injective, some-ne-none}
 use lib.ListN.{get_elem?}
@@ -19,7 +20,7 @@ at_least xs ys = go (ltb (length xs) (length ys)) refl
     go true e = (let z : length xs < length ys = grind (arith, nat_tests) in omega arith, omega arith)
     go false e = (omega arith, let z : length ys ≤ length xs = grind (arith, nat_tests) in z)
 
--- who is as long keeps its own
+-- a list that is at least as long stays
 pub keeps : (xs ys : List Access) → length ys ≤ length xs → longer xs ys ≡ xs
 keeps xs ys h = go (ltb (length xs) (length ys)) (grind (arith, nat_tests))
   where
@@ -37,7 +38,7 @@ grows : (xs : List Access) (yss : List (List Access)) → length xs ≤ length (
 grows xs [] = omega arith
 grows xs (ys ∷ yss) = let a = (at_least xs ys).0 in let b = grows (longer xs ys) yss in omega arith
 
--- a second pass, by one who is at least as long as where the first began
+-- a second pass, with a list that is at least as long as that at the end of the first one
 second : (top xs : List Access) (yss : List (List Access)) → length (after_pass xs yss) ≤ length top → (after_pass top (all_after_pass xs yss) ≡ top)
     × AllAre top (all_after_pass top (all_after_pass xs yss))
 second top xs [] h = (refl, tt)
@@ -51,7 +52,7 @@ pub two_passes : (xs : List Access) (yss : List (List Access)) → (after_pass (
     × AllAre (after_pass xs yss) (all_after_pass (after_pass xs yss) (all_after_pass xs yss))
 two_passes xs yss = second (after_pass xs yss) xs yss (omega arith)
 
--- who has seen what another had, and more, keeps its own
+-- a list that continues another one stays when they meet
 pub longer_front : (xs es : List Access) → longer xs (xs ++ es) ≡ xs ++ es
 longer_front xs [] = keeps xs (xs ++ []) (let z = ap length (append-nil xs) in omega arith) ∙ sym (append-nil xs)
 longer_front xs (e ∷ es) = go (ltb (length xs) (length (xs ++ e ∷ es))) more

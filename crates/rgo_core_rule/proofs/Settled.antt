@@ -1,4 +1,6 @@
--- If every goroutine has looked and none has changed a word, the words are what all of them found.
+-- If every goroutine has looked and none has changed a word, the words are what all of them found. `still_by` carries it: an access
+-- since then is by no goroutine, or by one whose record counts no access after its `front`. So it is in `front`, where that
+-- goroutine has changed nothing.
 use Rattle.std.proofs.Common.{◌≡◌, ℕ, zero, suc, List, [], ◌∷◌, ◌++◌, Option, Some, None, set, slice_index, refl, ap, sym, subst, ◌∙◌, ⊎_elim, arith, append_assoc}
 use mathlib.Core.Option.{some, some-injective, some-ne-none}
 use lib.ListN.{get_elem?}
@@ -27,7 +29,7 @@ found_still (x ∷ since) words a s still (suc i) q =
     found_still since (set words x.word x.left) a s.1 (λ j y r. still (suc j) y r) i q
     ∙ ap (λ (l : List ℕ). slice_index l a.word) (same_words words x s.0 (still 0 x refl))
 
--- of what came after a history with all accesses of a goroutine, nothing is the goroutine's
+-- after a history that has all accesses of a goroutine none of its own follows
 none_after : (g n : ℕ) (front rest history : List Access) → history ≡ front ++ rest → n ≡ accesses_by g front → n ≡ accesses_by g history
     → accesses_by g rest ≡ 0
 none_after g n front rest history is all count =

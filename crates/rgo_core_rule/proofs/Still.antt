@@ -1,4 +1,5 @@
--- What becomes of a record without an access is in the run before the goroutine's next access.
+-- A change of a record without an access is in the run before the goroutine's next access. The gains of both are appended, so it
+-- is only a matter of setting one record twice.
 use Rattle.std.proofs.Common.{◌≡◌, ℕ, suc, List, [], ◌++◌, set, ap, ◌∙◌, append_assoc}
 use Rattle.std.proofs.lemmas.List.{append-nil}
 use Rattle.atomic_table.proofs.Lists.{set_here, set_again}

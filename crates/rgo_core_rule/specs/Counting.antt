@@ -1,4 +1,5 @@
--- The smallest machine to try the rule on: goroutines that add one to a total, and may each start one more.
+-- The smallest machine to try the rule on: goroutines that add one to a total, and may each start one more. The examples show what
+-- the rule has to exclude: each definition has a case that holds and one that must not.
 use Rattle.std.specs.Prelude.{◌≡◌, ◌<◌, ◌≤◌, ◌==◌, ◌+◌, ◌%◌, min, ℕ, suc, Bool, true, false, List, [], ◌∷◌, ◌++◌, Option, Some, None, length, slice_index, count_by}
 use mathlib.Core.Option.{some}
 use lib.ListN.{get_elem?}
@@ -60,7 +61,9 @@ drew c = record c { accesses = suc c.accesses; has_drawn = true }
 abbrev pub draws : List Adder → ℕ
 draws recs = count_by (λ (c : Adder). c.has_drawn) recs
 
--- The run leads to what words and records show, where at most `limit` goroutines start.
+-- The run leads to what words and records show, where at most `limit` goroutines start. A number that was drawn at the limit counts
+-- in word 1 without a goroutine, hence the minimum in `as_many`. `others` is needed when a goroutine starts: the run has
+-- nothing of it yet. `fits` excludes that word 1 wraps around and a number is drawn twice.
 pub record CountingExplains (limit : ℕ) (words : List ℕ) (recs : List Adder) (run : List AdderEvent) : Type 0 where
   pub wide : length words ≡ 2
   pub total : slice_index words 0 ≡ count_by is_add run % 18446744073709551616
@@ -85,7 +88,7 @@ DidStart limit m None w =
     (n : ℕ) × (limit ≤ n) × Told accesses (number_of m) DrawNumber 1 (λ n. (n + 1) % 18446744073709551616)
     (λ n d. (limit ≤ n) × (d ≡ drew (record_of new_adder m))) m n w
 
--- ---- a history: the first goroutine adds and starts another, which adds; then somebody looks
+-- ---- a history: the first goroutine adds and starts another, which adds; then a seat loads word 0
 
 abbrev pub opening_words : List ℕ
 opening_words = 0 ∷ 1 ∷ []

@@ -7,7 +7,7 @@ use Rattle.rgo_core_rule.specs.declared.accesses.Kind.{Kind}
 abbrev pub access : ℕ → Kind → (word found left : ℕ) → Access
 access g kind word found left = record { by = Some g; kind = kind; word = word; found = found; left = left }
 
--- a load of word 0 that is of no goroutine
+-- a load of word 0 that no goroutine's record counts
 abbrev pub glance : Kind → ℕ → Access
 glance kind found = record { by = None; kind = kind; word = 0; found = found; left = found }
 

@@ -1,4 +1,5 @@
--- The rule of a table: one run explains its words after every access, and each seat knows a part of the whole.
+-- The rule of a table: one run explains its words after every access, and each seat knows a part of the whole. The run is in no word and
+-- no view, so it costs nothing, and contracts can refer to it only through this rule.
 use Rattle.std.specs.Prelude.{◌≡◌, ◌<◌, ◌≤◌, ℕ, List, Some, None, length, take}
 use mathlib.Core.Option.{some}
 use mathlib.Core.List.{IsPrefix}
@@ -10,7 +11,8 @@ use Rattle.rgo_core_rule.specs.declared.accesses.Access.{Access}
 use Rattle.rgo_core_rule.specs.declared.accesses.View.{View}
 
 module _ {R : Type 0} (accesses : R → ℕ) where
-  -- each view has seen a beginning of the history, and in it all accesses of the goroutines whose records it has
+  -- Each view has seen a beginning of the history, and in it all accesses of the goroutines whose records it has. `own` is how a
+  -- seat knows that nobody else has acted for its goroutine: what it has not seen is by others.
   pub record Aware (views : List (View R)) (history : List Access) : Type 0 where
     pub seen : (id : ℕ) (v : View R) → get_elem? views id ≡ some v → IsPrefix v.seen history
     pub own : (id : ℕ) (v : View R) (g : ℕ) (c : R) → get_elem? views id ≡ some v → HasRow v.records g c
@@ -21,22 +23,27 @@ module _ {R : Type 0} (accesses : R → ℕ) where
 module _ {E R : Type 0} (accesses : R → ℕ) (Explains : List ℕ → List R → List E → Type 0) (opening : List ℕ) where
   -- a run explains the history, which led from the opening words to these
   pub record Account (words : List ℕ) (recs : List R) (history : List Access) : Type 0 where
-    -- what each access adds to the run
+    -- What each access adds to the run. It may be nothing, as for a load, or several events, since local steps come with the next access.
     pub gains : List (List E)
+    -- the k-th gain is that of the k-th access
     pub paired : length gains ≡ length history
     pub explains : Explains words recs (flattened gains)
-    -- what the first k accesses add explains the words after them
+    -- What the first k accesses add explains the words after them. Only by this can a run be named that is cut off early, as when memory
+    -- runs out. The records `then` are those of that moment.
     pub moments : (k : ℕ) → k ≤ length history
         → (then : List R) × Explains (replay opening (take k history)) then (flattened (take k gains))
+    -- the words are what the history makes of the opening ones: from this follows what a word was at an earlier moment
     pub replayed : words ≡ replay opening history
+    -- what an access found was the word then, so that what a goroutine remembers of it means something
     pub sound : Sound opening history
     -- each record counts the accesses of its goroutine
     pub counted : (g : ℕ) (c : R) → get_elem? recs g ≡ some c → accesses c ≡ accesses_by g history
-    -- each access is by a goroutine that exists, or by none, and then it changes nothing
+    -- Each access is by a goroutine that exists, or by none, and then it changes nothing. `makers` lets a new goroutine begin with no
+    -- access: none in the history has its number.
     pub makers : (i : ℕ) (a : Access) (g : ℕ) → get_elem? history i ≡ some a → a.by ≡ Some g → g < length recs
     pub glances : (i : ℕ) (a : Access) → get_elem? history i ≡ some a → a.by ≡ None → a.left ≡ a.found
 
-  -- the rule
+  -- The rule. Each access has to lead from a table with some account, owners and awareness to one with others.
   pub record Explained (s : TableState R) : Type 0 where
     pub recs : List R
     pub history : List Access
@@ -46,7 +53,8 @@ module _ {E R : Type 0} (accesses : R → ℕ) (Explains : List ℕ → List R �
     pub owned : Owned s.views recs owner
     pub aware : Aware accesses s.views history
 
-  -- what is known of the words of a table that was closed with a seat of this view
+  -- What is known of the words of a table that was closed with a seat of this view. The other seats are gone, so of other records it is
+  -- known only that they exist.
   pub record Closing (words : List ℕ) (v : View R) : Type 0 where
     pub recs : List R
     pub history : List Access

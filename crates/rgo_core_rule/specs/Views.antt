@@ -1,4 +1,5 @@
--- What seats know: the records of goroutines, each in the view of one seat, and a beginning of the history.
+-- What seats know: the records of goroutines, each in the view of one seat, and a beginning of the history. Since each record has one
+-- owner, only that seat's accesses change it, and its thread needs no synchronisation to read it.
 use Rattle.std.specs.Prelude.{◌≡◌, ◌==◌, ℕ, ltb, List, [], ◌∷◌, ◌++◌, length, if◌then◌else◌}
 use mathlib.Core.Option.{some}
 use lib.ListN.{get_elem?}
@@ -18,7 +19,7 @@ Me R = table.Me (Unit {0}) (View R)
 abbrev pub Rows : Type 0 → Type 0
 Rows R = List (ℕ × R)
 
--- the longer one; the first if they are equally long
+-- The longer one; the first if they are equally long. Of two beginnings of one history it has all that the other has.
 abbrev pub longer : List Access → List Access → List Access
 longer xs ys = if ltb (length xs) (length ys) then ys else xs
 
@@ -26,11 +27,12 @@ module _ {R : Type 0} where
   abbrev pub view : Rows R → List Access → View R
   view rows seen = record { records = rows; seen = seen }
 
-  -- c is the record of goroutine g
+  -- c is the record of goroutine g, at whatever position
   abbrev pub HasRow : Rows R → ℕ → R → Type 0
   HasRow rows g c = (k : ℕ) × (get_elem? rows k ≡ some (g, c))
 
-  -- each record is in the view of its owner, and in no other view
+  -- Each record is in the view of its owner, and in no other view. `here` excludes that two seats act for one goroutine, and `there` that
+  -- a record is lost.
   pub record Owned (views : List (View R)) (recs : List R) (owner : ℕ → ℕ) : Type 0 where
     pub here : (id : ℕ) (v : View R) (g : ℕ) (c : R) → get_elem? views id ≡ some v → HasRow v.records g c
         → (owner g ≡ id) × (get_elem? recs g ≡ some c)
@@ -54,7 +56,7 @@ module _ {R : Type 0} where
   abbrev pub informed : View R → View R → View R
   informed v w = view (v.records ++ w.records) (longer w.seen v.seen)
 
-  -- the number and the record of the first row; `blank` if there is none
+  -- The number and the record of the first row. Without a row it is `blank`, which no contract reads: `IsAlone` comes with it.
   abbrev pub number_in : Rows R → ℕ
   number_in [] = 0
   number_in (r ∷ rs) = r.0
@@ -74,6 +76,6 @@ module _ {R : Type 0} where
   abbrev pub Alone : ℕ → R → Me R → Type 0
   Alone g c m = (m.0.records ≡ (g, c) ∷ []) × (m.1 ≡ [])
 
-  -- the seat has one record, and nothing else
+  -- The seat has one record, and nothing else. Accesses need this, since the record of the seat names the goroutine that makes them.
   abbrev pub IsAlone : R → Me R → Type 0
   IsAlone blank m = Alone (number_of m) (record_of blank m) m

@@ -1,7 +1,9 @@
-//! What the seats of a table know. Only contracts speak of these types; no value of them is ever made.
+//! What the seats of a table know. Only contracts use these types. No value of them is ever made, so a view costs neither memory
+//! nor time when the code runs.
 use std::collections::LinkedList;
 
-/// What an access is for.
+/// What an access is for. The rule never reads it. Contracts of callers do, to state which accesses a call has made: several kinds
+/// of access do the same to a word.
 pub enum Kind {
     /// A load of the clock, or of a word of an object or a package variable.
     Load,
@@ -21,7 +23,7 @@ pub enum Kind {
     LinkPage,
     /// An addition to the clock, which gives a print its place.
     DrawTicket,
-    /// A bit of the clock that is set: the run ends.
+    /// An `or` that sets the clock's last bit: the run ends.
     EndRun,
     /// An exchange that takes a slot for a new region if it is free.
     CreateRegion,
@@ -51,15 +53,15 @@ pub enum Kind {
     Commit,
     /// An addition to the number of goroutines that were started.
     DrawNumber,
-    /// A seat is split in two.
+    /// A load of word 0 with which a seat is split in two.
     Split,
-    /// Two seats are joined.
+    /// A load of word 0 with which two seats are joined.
     Join,
 }
 
 /// One atomic access to a word of a table.
 pub struct Access {
-    /// The goroutine that made it; `None` for an access to word 0 that changes nothing.
+    /// The goroutine that made it. `None` is a load of word 0, which no record counts, so that a seat without a record can make it.
     pub by: Option<u64>,
     pub kind: Kind,
     pub word: u64,
@@ -67,8 +69,8 @@ pub struct Access {
     pub left: u64,
 }
 
-/// What a seat knows: the records of the goroutines that it has, by their numbers, and the accesses that it has seen, which
-/// are the first ones of the table.
+/// What a seat knows: the records of the goroutines that it has, by their numbers, and the accesses that it has seen. These are a
+/// beginning of the table's history, so of two seats the one that has seen more has seen all that the other has.
 pub struct View<R> {
     pub records: LinkedList<(u64, R)>,
     pub seen: LinkedList<Access>,

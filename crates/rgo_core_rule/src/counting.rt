@@ -1,5 +1,5 @@
 //! The smallest table under the rule: goroutines add to one total, and each of them may start one more. It shows what a crate
-//! above has to give: an explanation, the law of each access, and one call each.
+//! above has to provide: an explanation, a law for each kind of access, and a call for each kind.
 ghost use Rattle.std.specs.Prelude.{◌≡◌, ◌≤◌, ◌<◌, ◌+◌, ◌%◌, ◌^◌, ℕ, suc, false, List, [], ◌∷◌, Some, None, IfOk, length};
 ghost use Rattle.std.specs.Mem.Slots.{IsFull, slots_items, slots_len};
 ghost use Rattle.rgo_core_rule.specs.Counting.{AdderEvent, CountingExplains, CountingExamples, RuleExamples, MoveExamples, added, idled, drew, new_adder, DidStart};
@@ -31,7 +31,7 @@ pub struct Plan {
     pub limit: u64,
 }
 
-/// Word 0 is the total, word 1 how many numbers of goroutines were drawn.
+/// Word 0 is the total. Word 1 counts the numbers of goroutines that were drawn: it opens at 1, since the first goroutine has 0.
 pub struct Counting;
 
 impl Explanation<Adder, Plan> for Counting {
@@ -57,20 +57,20 @@ pub fn examples()
     ensures moves { MoveExamples }
 {}
 
-/// The law of an addition: it is one event of the run.
+/// The law of an addition: it is one event of the run. It is modulo 2^64, since a word wraps around.
 pub fn add_law()
     ensures { (limit g : ℕ) (c : adders.Adder)
         → Move (λ (c : adders.Adder). c.accesses) (CountingExplains limit) g c 0 (λ n. (n + 1) % 2 ^ 64) (λ n d. d ≡ added c) }
 {}
 
-/// The law of a draw: below the limit it starts a goroutine.
+/// The law of a draw: below the limit it starts a goroutine. A record has one bit for draws, so each goroutine draws at most once.
 pub fn start_law()
     ensures { (limit g : ℕ) (c : adders.Adder) → c.has_drawn ≡ false
         → MoveEither (λ (c : adders.Adder). c.accesses) (CountingExplains limit) g c 1 (λ n. (n + 1) % 2 ^ 64)
         (λ n d. (limit ≤ n) × (d ≡ drew c)) (λ n d child. (n < limit) × (d ≡ drew c) × (child ≡ new_adder)) }
 {}
 
-/// A goroutine may idle without an access.
+/// A goroutine may idle without an access: this changes its record and the run, but no word, so no other seat can see it.
 pub fn idle_law()
     ensures { (limit g : ℕ) (c : adders.Adder)
         → Still (λ (c : adders.Adder). c.accesses) (CountingExplains limit) g c (idled c) }
@@ -86,7 +86,7 @@ pub fn open(alloc: Global, plan: &Plan) -> Result<(Total, AdderSeat), AllocError
     seats::open::<Adder, Plan, Counting>(alloc, &[0, 1], plan)
 }
 
-/// Adds one to the total, and returns what it was.
+/// Adds one to the total, and returns what it was at that moment. Others may have added since.
 pub fn add(table: &Total, seat: &mut AdderSeat) -> u64
     requires own { (seat.old.table_id ≡ table.now.shared.table_id) × (table.now.shared.table_id.words ≡ 2) }
     requires alone { IsAlone new_adder seat.old.me }
@@ -98,8 +98,8 @@ pub fn add(table: &Total, seat: &mut AdderSeat) -> u64
     fetch_add::<Adder, Plan, Counting, Brand, _>(table, seat, 0, 1, &())
 }
 
-/// Starts a goroutine, and returns its number; `None` if there are as many as there may be. Its record is then beside that of
-/// the goroutine that started it.
+/// Starts a goroutine, and returns its number. Its record is then on the same seat as that of the goroutine that started it.
+/// `None` at the limit: the number drawn is lost. It cannot be returned, since another goroutine may have drawn the next one.
 pub fn start(table: &Total, seat: &mut AdderSeat, limit: u64) -> Option<u64>
     requires own { (seat.old.table_id ≡ table.now.shared.table_id) × (table.now.shared.table_id.words ≡ 2) }
     requires limit { limit ≡ table.now.shared.key.limit }
@@ -112,7 +112,7 @@ pub fn start(table: &Total, seat: &mut AdderSeat, limit: u64) -> Option<u64>
     if found < limit { Some(found) } else { None }
 }
 
-/// The last words, and the run that explains them.
+/// The last words, and the run that explains them. The table is taken by value, so no thread can access it any more.
 pub fn close(table: Total, seat: AdderSeat) -> Closed<(), Global>
     requires { seat.table_id ≡ table.shared.table_id }
     ensures counts { (slots_len result.words ≡ table.shared.table_id.words)

@@ -1,4 +1,5 @@
-//! The rule of a table.
+//! The rule of a table: after every access one run explains its words. The machine comes in as a trait with ghost members, so that
+//! laws and calls are proved once, as clauses of public functions that are generic in it.
 ghost use Rattle.std.specs.Prelude.{ℕ, List, [], ◌∷◌};
 ghost use Rattle.rgo_core_rule.specs.Rule.{Explained};
 ghost use Rattle.rgo_core_rule.specs.Views.{view, joined, informed};
@@ -9,15 +10,17 @@ use atomic_table::{Join, Seat, Split, Table, TableRule};
 use std::alloc::Global;
 use std::marker::{Brand, PhantomData};
 
-/// Which runs explain which words. `R` is what is known of a goroutine, `K` what the table is told once, when it is made.
+/// Which runs explain which words. `R` is what is known of a goroutine. `K` is fixed when the table is made, such as code and limits.
 pub trait Explanation<R, K> {
     /// What a run is a list of.
     ghost Event: { Type 0 };
 
-    /// How many accesses a goroutine has made, as its record says.
+    /// How many accesses a goroutine has made, by its record. The rule compares it with the history: so a seat has seen every
+    /// access of the goroutines whose records it has.
     ghost accesses: { R → ℕ };
 
-    /// The run leads to what these words and the records of all goroutines show.
+    /// The run leads to what these words and the records of all goroutines show. Nothing else may be used: seats and views are no
+    /// part of an explanation, since they pass from thread to thread without an access.
     ghost explains: { K → List ℕ → List R → List Event → Type 0 };
 
     /// The words of a new table.
@@ -41,10 +44,11 @@ impl<R, K, X: Explanation<R, K>> TableRule<(), View<R>, K> for Rule<X> {
 /// A table of words under the rule.
 pub type Cells<R, K, X> = Table<(), View<R>, K, Rule<X>, Global>;
 
-/// What a thread accesses the words with. It has no bytes.
+/// The right of a thread to access the words. It has no bytes.
 pub type Chair<R> = Seat<(), View<R>>;
 
-/// How a view is cut in two. A call picks it.
+/// How a view is cut in two. Each call picks the members in its proof (`proofs/seats/*/Invariants.antt`). Those of `Brand` are
+/// placeholders.
 pub trait Parting<R> {
     ghost left: { seats.View R → seats.View R };
 
@@ -68,7 +72,8 @@ impl<R, T: Parting<R>> Split<View<R>> for Cut<R, T> {
     ghost right = { λ v. T.right v };
 }
 
-/// Two views become one. If both have seen equally many accesses, it keeps those of the first.
+/// Two views become one. If both have seen equally many accesses, it keeps those of the first. Both lists are then the same, but a
+/// join sees two views alone, without the history of which they are beginnings.
 pub struct Joined;
 
 impl<R> Join<View<R>> for Joined {
@@ -77,7 +82,8 @@ impl<R> Join<View<R>> for Joined {
     ghost spent = { view [] [] };
 }
 
-/// Two views become one. If both have seen equally many accesses, it keeps those of the second.
+/// As [`Joined`], but with the second view's accesses if both have seen equally many. [`crate::seats::meet`] needs both forms: its
+/// two seats must keep the same list, and each of them is once the first.
 pub struct Informed;
 
 impl<R> Join<View<R>> for Informed {

@@ -1,4 +1,5 @@
-//! Seats: how a table begins and ends, and how records and what was seen pass from seat to seat.
+//! Seats: how a table begins and ends, and how records and what was seen pass from seat to seat. A view changes only with an
+//! access, so a split and a join load word 0 and ignore what they find. The thread that has the seats may make them at any time.
 ghost use Rattle.std.specs.Prelude.{◌≡◌, ◌<◌, ℕ, List, [], ◌∷◌, length, IfOk};
 ghost use Rattle.std.specs.Mem.Slots.{IsFull, slots_items, slots_len};
 ghost use Rattle.atomic_table.specs.Table.{Splits};
@@ -12,7 +13,8 @@ use atomic_table::{Closed, Play, Table};
 use std::alloc::{AllocError, Global};
 use std::marker::{Brand, PhantomData};
 
-/// A table with these words, and the seat with the record of its first goroutine.
+/// A table with these words, and the seat with the record of its first goroutine. The empty run has to explain them, since every
+/// later run continues it.
 pub fn open<R, K, X: Explanation<R, K>>(
     alloc: Global,
     words: &[u64],
@@ -29,7 +31,8 @@ pub fn open<R, K, X: Explanation<R, K>>(
     Table::of_words(alloc, words, about)
 }
 
-/// The last words. The run that explains them leads to the records that the seat has, among others.
+/// The last words. The run that explains them leads to the records that the seat has, among others. The table is taken by value, so
+/// no access can follow. Records on other seats stay unknown, hence a driver retires all of its goroutines first.
 pub fn close<R, K, X: Explanation<R, K>>(
     table: Cells<R, K, X>,
     seat: Chair<R>,
@@ -53,8 +56,8 @@ impl<R, K, X: Explanation<R, K>> Play<(), View<R>> for Glances<K, X> {
     ghost then = { λ s m n w. Glanced X.accesses m n w };
 }
 
-/// A load of word 0 that is of no goroutine: the seat has then seen all accesses so far, among them all of the goroutines whose
-/// records it has.
+/// A load of word 0 that no record counts. The seat has then seen all accesses up to this one, among them all of the goroutines
+/// whose records it has. Any seat may make it, also one with several records or with none.
 pub fn glance<R, K, X: Explanation<R, K>>(table: &Cells<R, K, X>, seat: &mut Chair<R>) -> u64
     requires own { (seat.old.table_id ≡ table.now.shared.table_id) × (0 < table.now.shared.table_id.words) }
     ensures own { (seat.new.table_id ≡ seat.old.table_id) × (seat.new.id ≡ seat.old.id) }
@@ -78,7 +81,8 @@ fn cut_as<R, K, X: Explanation<R, K>, T: Parting<R>, A>(
     table.shared.split_seat::<Cut<R, T>>(seat)
 }
 
-/// The record of goroutine `number` goes to a seat of its own, which has seen the same.
+/// The record of goroutine `number` goes to a seat of its own, which has seen the same. A record begins on the seat of the
+/// goroutine that has started it, and has to leave it before another thread can run the new goroutine.
 pub fn part<R, K, X: Explanation<R, K>>(
     table: &Cells<R, K, X>,
     seat: &mut Chair<R>,
@@ -94,7 +98,7 @@ pub fn part<R, K, X: Explanation<R, K>>(
     cut_as::<R, K, X, Brand, _>(table, seat, &number)
 }
 
-/// All records of another seat come to this one, which has then seen what either had.
+/// All records of another seat come to this one, which has then seen what either had. The other seat is used up.
 pub fn retire<R, K, X: Explanation<R, K>>(
     table: &Cells<R, K, X>,
     seat: &mut Chair<R>,
@@ -109,7 +113,7 @@ pub fn retire<R, K, X: Explanation<R, K>>(
     table.shared.join_seat::<Joined>(seat, other);
 }
 
-/// A new seat with no record, which has seen the same.
+/// A new seat with no record, which has seen the same: what a seat hands to another one, since a join uses a seat up.
 fn note<R, K, X: Explanation<R, K>>(table: &Cells<R, K, X>, seat: &mut Chair<R>) -> Chair<R>
     requires own { (seat.old.table_id ≡ table.now.shared.table_id) × (0 < table.now.shared.table_id.words) }
     ensures old { (seat.new.table_id ≡ seat.old.table_id) × (seat.new.id ≡ seat.old.id)
@@ -119,7 +123,7 @@ fn note<R, K, X: Explanation<R, K>>(table: &Cells<R, K, X>, seat: &mut Chair<R>)
     cut_as::<R, K, X, Brand, _>(table, seat, &())
 }
 
-/// Each of two seats has then seen what either had. No record passes.
+/// Each of two seats has then seen what either had. No record passes, so both goroutines stay where they are.
 pub fn meet<R, K, X: Explanation<R, K>>(
     table: &Cells<R, K, X>,
     seat: &mut Chair<R>,

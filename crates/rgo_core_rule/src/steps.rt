@@ -1,5 +1,8 @@
-//! Accesses by a goroutine: each call is one atomic access to one word. A call asks for the law of its access, a `Move`; that
-//! the rule of the table allows the access then follows. What it leaves is possible: a run leads to a table with this record.
+//! Accesses by a goroutine: each call is one atomic access to one word. A call requires the law of its access, a `Move`, from which
+//! follows that the rule of the table allows it. The record after it is possible: some run leads to a table with this record. So
+//! callers can conclude from a record alone what every run guarantees, and need no invariant of their own data.
+//!
+//! What a call returns was the word at the moment of the access. Other threads may have changed the word before the caller reads it.
 ghost use Rattle.std.specs.Prelude.{◌≡◌, ◌⊎◌, ◌+◌, ◌-◌, ◌%◌, ◌^◌, ◌<◌, ◌==◌, ℕ, bit_or};
 ghost use prog.Atomic.{either};
 ghost use Rattle.rgo_core_rule.specs.Steps.{Asks, AsksEither, LeavesOnSeat, Occurs, Told, ToldChild};
@@ -10,7 +13,7 @@ use crate::told;
 use crate::told::{Start, Step};
 use std::marker::Brand;
 
-/// A load. `_about` is for the pick of `T` alone, here and below.
+/// A load. `_about` is never read, here and below: the proof of a caller picks `T` by it.
 pub fn load<R, K, X: Explanation<R, K>, T: Step<R>, A>(
     table: &Cells<R, K, X>,
     seat: &mut Chair<R>,
@@ -29,7 +32,7 @@ pub fn load<R, K, X: Explanation<R, K>, T: Step<R>, A>(
     told::load::<R, K, X, Brand>(table, seat, word)
 }
 
-/// A store. What the word held is not told.
+/// A store. It does not show what the word held. So its law has to hold whatever it overwrites.
 pub fn store<R, K, X: Explanation<R, K>, T: Step<R>, A>(
     table: &Cells<R, K, X>,
     seat: &mut Chair<R>,

@@ -1,5 +1,6 @@
-//! What an access tells, and the accesses, each of which tells just that. [`crate::steps`] tells of each access, besides, that the
-//! record after it is possible.
+//! What is known after an access, and the accesses themselves. [`crate::steps`] calls these with a stronger `tells`, which has also
+//! that the record after the access is possible. This is a layer of its own because a law can be strengthened only before the
+//! access: afterwards other threads may have changed the table.
 ghost use Rattle.std.specs.Prelude.{◌≡◌, ◌⊎◌, ◌+◌, ◌-◌, ◌%◌, ◌^◌, ◌<◌, ◌==◌, ℕ, bit_or};
 ghost use prog.Atomic.{either};
 ghost use Rattle.rgo_core_rule.specs.Steps.{Asks, AsksEither, LeavesOnSeat, Told, ToldChild};
@@ -12,7 +13,7 @@ use crate::rule::{Cells, Chair, Explanation};
 use atomic_table::Play;
 use std::marker::{Brand, PhantomData};
 
-/// What an access is for, and what it tells of the number found and of the record after it. A call picks it.
+/// What an access is for, and what holds of the number found and the record after it. A call picks both in its proof.
 pub trait Step<R> {
     ghost kind: { kinds };
 
@@ -25,7 +26,8 @@ impl<R> Step<R> for Brand {
     ghost tells = { λ n c. Unit {0} };
 }
 
-/// What an access that may start a goroutine tells: as [`Step`], and of the record of the new goroutine, too.
+/// The same for an access that may start a goroutine: `tells` if none has started, and `tells_child` if one has, whose record is
+/// then the third argument.
 pub trait Start<R> {
     ghost kind: { kinds };
 
@@ -60,7 +62,7 @@ impl<R, K, X: Explanation<R, K>, T: Step<R>> Play<(), View<R>> for Swaps<K, X, T
     ghost then = { λ s m n w. Told X.accesses (number_of m) T.kind s.word (λ n. s.first) T.tells m n w };
 }
 
-/// The same, where what was found is not told.
+/// The same of a store, which does not show what was found.
 pub struct Stores<K, X, T> {
     of: PhantomData<(K, X, T)>,
 }
@@ -136,7 +138,7 @@ pub(crate) fn load<R, K, X: Explanation<R, K>, T: Step<R>>(
     table.shared.load::<Loads<K, X, T>>(seat, word)
 }
 
-/// A store. What the word held is not told.
+/// A store. It does not show what the word held.
 pub(crate) fn store<R, K, X: Explanation<R, K>, T: Step<R>>(
     table: &Cells<R, K, X>,
     seat: &mut Chair<R>,
@@ -221,7 +223,7 @@ pub(crate) fn fetch_or<R, K, X: Explanation<R, K>, T: Step<R>>(
     table.shared.fetch_or::<Sets<K, X, T>>(seat, word, k)
 }
 
-/// The word becomes `new` if it is `old`.
+/// The word becomes `new` if it is `old`. It fails only if the word is another number, and returns that number.
 pub(crate) fn compare_exchange<R, K, X: Explanation<R, K>, T: Step<R>>(
     table: &Cells<R, K, X>,
     seat: &mut Chair<R>,
@@ -241,7 +243,8 @@ pub(crate) fn compare_exchange<R, K, X: Explanation<R, K>, T: Step<R>>(
         .compare_exchange::<Exchanges<K, X, T>>(seat, word, old, new)
 }
 
-/// An addition, modulo 2^64, that may start a goroutine, whose number is then what was found.
+/// An addition, modulo 2^64, that may start a goroutine, whose number is then what was found. Its two outcomes are one law, because
+/// only the number found decides between them.
 pub(crate) fn fetch_add_start<R, K, X: Explanation<R, K>, T: Start<R>>(
     table: &Cells<R, K, X>,
     seat: &mut Chair<R>,

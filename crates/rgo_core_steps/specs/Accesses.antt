@@ -1,4 +1,5 @@
--- Loads and stores that are the next instruction of a goroutine, as its record shows them.
+-- Loads and stores that are the next instruction of a goroutine, by its record. Code needs only the word; which of the instructions it is,
+-- the record shows.
 use Rattle.std.specs.Option.{option_map_or}
 use Rattle.std.specs.Prelude.{◌≡◌, ◌+◌, ℕ, suc, List, [], ◌∷◌, Some, None}
 use Rattle.rgo_sound.specs.Code.Code.{Do}

@@ -1,5 +1,5 @@
 -- The record of a goroutine after an access that is its next instruction, computed from the record before it. A record that has no
--- next instruction stays as it is.
+-- next instruction stays as it is. These are functions, and not relations, so that several accesses in a row can be computed.
 use Rattle.std.specs.Option.{option_map, option_map_or}
 use Rattle.std.specs.Prelude.{ℕ, suc, ◌+◌, ◌*◌, List, [], ◌∷◌, Option, None, unwrap_or}
 use Rattle.rgo_sound.specs.Code.Code.{Branch, Call, Code, CodeFn, CodeInstr, CodeOp, Do, Go, Jump, Print, Return}
@@ -56,14 +56,14 @@ given (Jump target removes) = None
 given (Branch test target removes other otherwise) = None
 given (Return value) = None
 
--- after an action that has this word as its value, or has none
+-- after an action whose value is this word, or which has none
 abbrev pub acting : Code → Record → (word : ℕ) → Record
 acting code c word = moving code c (λ p. record c {
   clock = ticked c.clock;
   frame = after_action code c.frame p.w p.ws p.instr (given p.instr.op) word;
 })
 
--- after the commit of an operation on a channel that has this word as its value: the channel is unlocked
+-- after the commit of an operation on a channel whose value is this word: the channel is unlocked
 abbrev pub committing : Code → Record → (word : ℕ) → Record
 committing code c word = record (acting code c word) { side = at_rest }
 

@@ -1,4 +1,4 @@
--- What calls of several accesses ask of their table, and what they have done.
+-- What calls of several accesses require of their table, and what they have done.
 use Rattle.std.specs.Prelude.{◌≡◌, ◌≤◌, ◌+◌, ◌^◌, ℕ, zero, suc, List, length}
 use Rattle.atomic_table.specs.Seated.{TableId}
 use Rattle.rgo_core.specs.Channels.Records.{ChannelRec as SideRec}
@@ -15,7 +15,7 @@ abbrev pub IsSeatIn : Setup → (seat table : TableId) → Type 0
 IsSeatIn T seat table = (seat ≡ table) × (table.words ≡ all_words (layout T)) × (all_words (layout T) ≤ 2 ^ 32)
 
 -- The goroutine of seat m has made these accesses, in this order, and no others; each was counted, from s on up to t. Seat w then has
--- its record d.
+-- its record d. Accesses of other goroutines may lie between any two of them, and are left out.
 pub record Did (T : Setup) (m : Me Record) (s : ℕ) (list : ℕ → List Access) (d : Record) (w : Me Record) (t : ℕ) : Type 0 where
   pub made : Made accesses (first_of T.code) m list d w
   pub counted : t ≡ s + length (list (number_of m))
@@ -30,6 +30,6 @@ accessed_by (suc k) c = accessed (accessed_by k c)
 abbrev pub accessing : ℕ → Record → Record
 accessing k c = record c { clock = accessed_by k c.clock }
 
--- and knows this of channels
+-- after k accesses, with this knowledge of channels
 abbrev pub waited : ℕ → Record → SideRec → Record
 waited k c side = record c { clock = accessed_by k c.clock; side = side }

@@ -1,4 +1,4 @@
--- What each access to a channel asks: records that may make it, and some that may not.
+-- What each access to a channel requires: records that may make it, and some that may not.
 use Rattle.std.specs.Prelude.{◌+◌, ℕ, [], ◌∷◌, None, Some}
 use Rattle.rgo_sound.specs.Code.Code.{CodeOp, Do}
 use Rattle.rgo_core.specs.Channels.Records.{Free, Hold, Locked, Read, Sized, Wrote, at_rest, offering_record, with_reach}
@@ -44,7 +44,7 @@ reached c at i w = knows c (with_reach c.side at i w)
 abbrev pub reaching : (word : ℕ) → Record
 reaching w = reached (at_work 700 (Locked 700 4) 9) 700 8 w
 
--- A control of 4 says one value, 8 two; 2 more that the channel is closed. Without a buffer 4 is an offer, and 8 one that was taken.
+-- A control of 4 shows one value, 8 two; with 2 added the channel is closed. Without a buffer 4 is an offer, and 8 one that was taken.
 pub record ChannelAccessExamples : Type 0 where
   pub loads : (limits : Limits) → CanLoadCell (doing_setup the_receive eight limits) (at_work 700 (Locked 700 8) 2) 700 1 703
   pub no_third : (T : Setup) (word : ℕ) → CanLoadCell T (at_work 700 (Locked 700 8) 2) 700 2 word → ⊥
@@ -62,9 +62,9 @@ pub record ChannelAccessExamples : Type 0 where
   pub shows : (limits : Limits) → let T = doing_setup the_receive eight limits in
       ShowsPage T (at_work 700 Free 9) 700 8 2 (reached (at_work 700 Free 9) 700 8 (cell_at (layout T) 1 0))
   pub no_number : (T : Setup) (c : Record) (at cell : ℕ) (d : Record) → ShowsPage T c at cell 0 d → ⊥
-  -- a page that there is not
+  -- a page that does not exist
   pub no_such_page : (limits : Limits) (c : Record) (at cell : ℕ) (d : Record) → ShowsPage (doing_setup the_receive eight limits) c at cell 5 d → ⊥
-  -- the cell is there, and nowhere else
+  -- the cell is at this word, and nowhere else
   pub loads_apart : (limits : Limits) (word : ℕ) → CanLoadCell (doing_setup the_receive eight limits) (reaching word) 700 8 word
   pub unreached : (limits : Limits) (word : ℕ) → CanLoadCell (doing_setup the_receive eight limits) (at_work 700 (Locked 700 4) 9) 700 8 word → ⊥
   pub sends : (sizes : Sizes) (limits : Limits) → let T = doing_setup the_send sizes limits in

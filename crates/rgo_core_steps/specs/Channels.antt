@@ -1,5 +1,5 @@
--- What each access to a channel asks of the record of its goroutine, and what it shows. A channel is named by `at`, the word of its
--- control.
+-- What each access to a channel requires of the record of its goroutine, and what it shows. A channel is named by `at`, the word of its
+-- control. All premises are about the record: what it has found stays true or is protected by the lock.
 use Rattle.std.specs.Prelude.{◌≡◌, ◌⊎◌, ◌+◌, ◌-◌, ◌%◌, ◌^◌, ◌<◌, ◌≤◌, ℕ, true, [], ◌∷◌, Option}
 use Rattle.rgo_core.specs.Channels.Controls.{closed_of, count_of, extent, head_of, spreads, tail_words}
 use Rattle.rgo_core.specs.Channels.Locking.{IsCell, IsSpare}
@@ -30,7 +30,7 @@ value_by (Read at n cell value) = value
 
 -- ---- loads
 
--- n was found on a control: what a commit adds to it fits, and its head is a cell if the capacity is known
+-- n was found on a control: what a commit adds to it fits, and its head is a cell if the capacity is known. So the code needs no tests.
 pub record ShowsControl (c : Record) (at n : ℕ) (d : Record) : Type 0 where
   pub is : d ≡ knows c (with_look c.side at n)
   pub fits : n + 4 < 2 ^ 64
@@ -50,7 +50,7 @@ pub record ShowsCapacity (T : Setup) (c : Record) (at n : ℕ) (d : Record) : Ty
 
 -- ---- cells
 
--- The goroutine knows the capacity of the channel, which is spread and has this cell.
+-- The goroutine knows the capacity of the channel, which is spread and has this cell. No lock is asked for.
 pub record CanReachCell (T : Setup) (c : Record) (at cell : ℕ) : Type 0 where
   pub size : ℕ
   pub sized : c.side.size ≡ Sized at size
@@ -72,7 +72,7 @@ pub record CanLoadCell (T : Setup) (c : Record) (at cell word : ℕ) : Type 0 wh
   pub within : cell < extent size
   pub is_there : IsCell T.sizes.page_words c.side at size cell word
 
--- The same, and the cell holds nothing.
+-- The same, and the cell holds nothing, by the control that was found under the lock.
 pub record CanStoreCell (T : Setup) (c : Record) (at cell word : ℕ) : Type 0 where
   pub n : ℕ
   pub size : ℕ
@@ -81,9 +81,10 @@ pub record CanStoreCell (T : Setup) (c : Record) (at cell word : ℕ) : Type 0 w
   pub spare : IsSpare n size cell
   pub is_there : IsCell T.sizes.page_words c.side at size cell word
 
--- ---- commits. The goroutine has locked the channel, whose control was n.
+-- ---- Commits. The goroutine has locked the channel, whose control was n, so the channel is still as n shows it.
 
--- The next instruction sends into a buffer that has room, and the word of the value is in the first free cell.
+-- The next instruction sends into a buffer that has room, and the word of the value is in the first free cell, where the next receivers
+-- will look for it.
 pub record CanSend (T : Setup) (c : Record) (at n : ℕ) : Type 0 where
   pub to : Option ℕ
   pub sent : ℕ
@@ -125,7 +126,7 @@ pub record CanClose (T : Setup) (c : Record) (at n : ℕ) : Type 0 where
   pub locked : c.side.hold ≡ Locked at n
   pub is_open : closed_of n ≡ 0
 
--- The next instruction sends on a channel without a buffer on which there is no offer, and the word of the value is in the cell.
+-- The next instruction sends on a channel without a buffer that has no offer, and the word of the value is in the cell.
 pub record CanOffer (T : Setup) (c : Record) (at n : ℕ) : Type 0 where
   pub to : Option ℕ
   pub sent : ℕ
@@ -135,7 +136,7 @@ pub record CanOffer (T : Setup) (c : Record) (at n : ℕ) : Type 0 where
   pub is_open : closed_of n ≡ 0
   pub none : count_of n ≡ 0
 
--- The next instruction receives from a channel without a buffer on which there is an offer, and the word of its value was loaded.
+-- The next instruction receives from a channel without a buffer that has an offer, and the word of its value was loaded.
 pub record RecordCanMeet (T : Setup) (c : Record) (at n : ℕ) : Type 0 where
   pub to : Option ℕ
   pub value : ℕ
@@ -145,7 +146,7 @@ pub record RecordCanMeet (T : Setup) (c : Record) (at n : ℕ) : Type 0 where
   pub is_open : closed_of n ≡ 0
   pub offered : count_of n ≡ 1
 
--- The goroutine's own offer was taken.
+-- The goroutine's own offer was taken. That it is the goroutine's own follows from its record; no word has the sender.
 pub record CanAcknowledge (T : Setup) (c : Record) (at n : ℕ) : Type 0 where
   pub here : IsAtSend T c
   pub own : c.side.post ≡ Offering at

@@ -1,4 +1,5 @@
--- Accesses to the counts of regions, each the first duty of a goroutine, and the record after each of them.
+-- Accesses to the counts of regions, each the first duty of a goroutine, and the record after each of them. Duties come before the next
+-- instruction, so nothing else of the goroutine can be pending.
 use Rattle.std.specs.Option.{option_map_or}
 use Rattle.std.specs.Prelude.{◌≡◌, ◌==◌, ℕ, List, [], ◌∷◌, Option, Some, None, if◌then◌else◌}
 use Rattle.rgo_sound.specs.RegionMachine.States.{Create, Duty, EndBase, Holder, Protect, Remove, Share, Unprotect}
@@ -58,18 +59,20 @@ ending c = by_first stake_ended c.frame.holder c.frame.holder.duties
 abbrev pub IsSharing : Record → (slot : ℕ) → Type 0
 IsSharing c p = (k : Holder) × (sharing c ≡ Some (p, k))
 
--- the record after that
+-- the record after it has taken that stake
 abbrev pub shared_record : Record → Record
 shared_record c = option_map_or (λ (t : ℕ × Holder). with_holder c t.1) (sharing c) c
 
--- The first duty ends the stake in the region of this slot. There is no claimed page of it that is not linked and no half made
--- object of it, and no chain is being returned.
+-- The first duty ends the stake in the region of this slot. Each page claimed for it is linked, no object is half made there, and no
+-- chain is being returned. Otherwise the goroutine could write to a page that another one has freed.
 pub record IsLeaving (c : Record) (slot : ℕ) : Type 0 where
   pub holder : Holder
   pub is : ending c ≡ Some (slot, holder)
+  -- nothing of the goroutine's own work in the slot is left half done
   pub free : IsFreeOf c.memory slot
+  -- a record has room for one chain that is being returned
   pub calm : c.memory.give ≡ Calm
 
--- the record is d after that, where the count was n: with 2 the stake was the last
+-- the record is d after that, if the count was n: with 2 the stake was the last
 abbrev pub Leaving : Record → (slot n : ℕ) → Record → Type 0
 Leaving c p n d = (k : Holder) × (ending c ≡ Some (p, k)) × HasLeft c k p n d

@@ -1,4 +1,5 @@
--- Why a goroutine ends the run, as its record says, and the record after it has set the end mark.
+-- Why a goroutine ends the run, by its record, and the record after it has set the end mark. The record must show the cause, since the mark
+-- is set at a moment that the goroutine does not choose.
 use Rattle.std.specs.Prelude.{◌≡◌, ◌⊎◌, ◌≤◌, ◌^◌, ℕ, true, List, [], ◌∷◌, Option, Some, None, length, unwrap_or}
 use Rattle.rgo_sound.specs.Ast.declared.ops.BinaryOp.{BinaryOp}
 use Rattle.rgo_sound.specs.Ast.declared.ops.BinaryOp.TheVariants.{Div, Rem}
@@ -36,14 +37,15 @@ abbrev pub mark_of : Given → Mark
 mark_of (given.Ended end) = Ended end
 mark_of (given.Stopped limit) = Stopped limit
 
--- ---- the record after the mark was set, where the clock was n
+-- ---- the record after the mark was set, for which the clock was n
 
 -- `main` has returned; at a trap the goroutine stays where it is
 abbrev pub ended_frame : Code → FrameRec → End → FrameRec
 ended_frame code r the_end.Exit = unwrap_or (local code r) r
 ended_frame code r (the_end.Trap trap place) = r
 
--- An end by the instruction counts the instruction; an end by a limit does not.
+-- An end by the instruction counts the instruction; an end by a limit does not, since the instruction was not made. The record changes in
+-- the same way if another goroutine had ended the run before: the machine goes on after an end.
 abbrev pub ending : Code → Record → (clock : ℕ) → Mark → Record
 ending code c n (Ended end) = record c {
   clock = with_end (instructed c.clock) n (Ended end);
@@ -99,5 +101,5 @@ pub data GoroutineEndsRun (T : Setup) (g : ℕ) (c : Record) (mark : Mark) : Typ
       → c.clock.refused ≡ true → mark ≡ Stopped limit.Goroutines → GoroutineEndsRun T g c mark
   -- memory has run out
   WantsMemory : mark ≡ Stopped limit.Memory → GoroutineEndsRun T g c mark
-  -- any limit that the run meets whatever the rest of the table is
+  -- Any limit that the run meets whatever the rest of the table is. An object of too many data pages comes this way.
   Meets : (why : Limit) → ((x : Situation T g c) → StopsBy T.code T.sizes T.limits why x.s) → mark ≡ Stopped why → GoroutineEndsRun T g c mark

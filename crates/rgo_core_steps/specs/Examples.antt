@@ -43,10 +43,10 @@ pub record SeatExamples : Type 0 where
   pub more : (T : Setup) (c d : Record) → HasOne T (pair 4 c 5 d) → ⊥
   pub two : (T : Setup) (c d : Record) → HasTwo T (pair 4 c 5 d) 5
   pub second : (T : Setup) (c d : Record) → other T (pair 4 c 5 d) ≡ d
-  -- a goroutine starts only such as have a larger number
+  -- a goroutine starts only goroutines with a larger number
   pub earlier : (T : Setup) (c d : Record) → HasTwo T (pair 4 c 3 d) 3 → ⊥
   pub at_once : (T : Setup) (m : Me Record) → settled T 0 m ≡ mine T m
-  -- without a frame there is no local step
+  -- without a frame no step is local
   pub stuck : (T : Setup) (g : ℕ) → settled_once T g idle ≡ idle
   pub not_quiet : (T : Setup) (g : ℕ) → NextIsLocal T g idle → ⊥
   pub local : (c : Record) → IsLocal c (record c { clock = instructed c.clock })
@@ -72,7 +72,7 @@ pub record RunEndExamples : Type 0 where
   pub counted : (code : Code) (c : Record) (n place : ℕ)
       → steps_of (ending code c n (Ended (the_end.Trap SendClosed place))) ≡ suc (steps_of c)
   pub uncounted : (code : Code) (c : Record) (n : ℕ) → steps_of (ending code c n (Stopped Memory)) ≡ steps_of c
-  -- whoever finds the clock without the end has set it, and nobody after that
+  -- the goroutine that finds the clock without the end has set it, and no later one
   pub first : (code : Code) (c : Record) → (ending code c 7 (Stopped Memory)).clock.first ≡ Some (Stopped Memory)
   pub later : (code : Code) (c : Record) → (ending code c 9223372036854775815 (Stopped Memory)).clock.first ≡ c.clock.first
 
@@ -80,7 +80,7 @@ pub record StartExamples : Type 0 where
   pub next : next_number 3 ≡ 4
   pub wraps : next_number 18446744073709551615 ≡ 0
   pub refused : (c : Record) → (refusing c).clock.refused ≡ true
-  -- where `main` is all that may be, no goroutine starts
+  -- if only one goroutine is allowed, none starts
   pub alone : (T : Setup) (q n : ℕ) (m w : Me Record) → most_goroutines T.limits ≡ 1 → HasDrawn T q m (Some (suc n)) w → ⊥
 
 -- ---- outcomes

@@ -1,4 +1,5 @@
--- What several accesses of one goroutine leave on its seat: what the seat has then seen, and what its own accesses found.
+-- What several accesses of one goroutine leave on its seat: what the seat has then seen, and what its own accesses found. Others' accesses
+-- come in between, so contracts of calls list those of the goroutine alone.
 use Rattle.std.specs.Prelude.{◌≡◌, ◌<◌, ◌+◌, ℕ, List, [], ◌∷◌, ◌++◌, Some, if◌then◌else◌}
 use mathlib.Core.Option.{some}
 use lib.ListN.{get_elem?}
@@ -17,12 +18,14 @@ own_by g (a ∷ es) = if is_number g a.by then a ∷ own_by g es else own_by g e
 
 module _ {R : Type 0} (accesses : R → ℕ) (blank : R) where
   -- The seat has one record, as before, of the same goroutine, and has seen the accesses es more. The record counts those of its
-  -- goroutine; if there are any, the seat has seen all that the record counts.
+  -- goroutine; if there are any, the seat has seen all that the record counts. Without an access that is not known: local steps change a
+  -- record and no view.
   pub record SeatGrew (m : Me R) (es : List Access) (w : Me R) : Type 0 where
     pub alone : IsAlone blank w
     pub same : number_of w ≡ number_of m
     pub seen : w.0.seen ≡ m.0.seen ++ es
     pub more : accesses (record_of blank w) ≡ accesses (record_of blank m) + accesses_by (number_of m) es
+    -- only an access shows that others have not acted for this goroutine meanwhile
     pub counts : 0 < accesses_by (number_of m) es → accesses (record_of blank w) ≡ accesses_by (number_of m) w.0.seen
 
   -- The goroutine of the seat has made these accesses, in this order, and no others. Its record is then d. `made` has a goroutine's

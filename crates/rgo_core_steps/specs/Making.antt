@@ -1,5 +1,6 @@
 -- New objects: which one the next instruction of a goroutine makes, in which slot, and at the end of which page or in which reserved
--- pages; and the record after each store of one of its words.
+-- pages; and the record after each store of one of its words. All of it is computed from the record, which nobody else changes
+-- while the goroutine stores one word after the other.
 use Rattle.std.specs.Option.{option_map, option_map_or}
 use Rattle.std.specs.Prelude.{◌≡◌, ◌⊎◌, ◌<◌, ◌≤◌, ◌+◌, ◌*◌, ◌==◌, ◌^◌, ℕ, zero, suc, Bool, true, false, List, [], ◌∷◌, Option, Some, None, if◌then◌else◌, length, map, nat_lt, option_and_then, replicate, slice_get}
 use Rattle.rgo_sound.specs.Code.Code.{Branch, Call, Code, CodeOp, Do, Go, Jump, Print, Return}
@@ -35,7 +36,7 @@ use Rattle.rgo_core_steps.specs.After.{Position, making, making_apart, position}
 abbrev pub struct_of : Struct → Object
 struct_of made = StructObject (map zero_of made.fields)
 
--- an object with n of something, below a limit
+-- this object, if the number n of its parts is below a limit
 abbrev pub object_below : (n limit : ℕ) → Object → Option Object
 object_below n limit object = if nat_lt n limit then Some object else None
 
@@ -94,6 +95,7 @@ pub record NeedsOwnPage (T : Setup) (c : Record) (slot : ℕ) : Type 0 where
   pub object : Object
   pub next : RecordMakesNext T c object slot
   pub fits : words_of object ≤ T.sizes.page_words
+  -- a goroutine takes no page as long as its own one there has room, so pages are filled
   pub full : (f : Fill) → Within f c.memory.fills → f.slot ≡ slot → T.sizes.page_words < f.fill + words_of object
 
 -- The object is spread, and not all of its pages are reserved.
@@ -102,6 +104,7 @@ pub record NeedsReserved (T : Setup) (c : Record) (slot : ℕ) : Type 0 where
   pub next : RecordMakesNext T c object slot
   pub spread : is_spread T.sizes.page_words object ≡ true
   pub small : is_too_large T.sizes.page_words object ≡ false
+  -- the object takes exactly these, so no page is reserved beyond them
   pub more : length c.memory.reserved.pages < pages_of T.sizes.page_words object
 
 abbrev pub NeedsPage : (T : Setup) (c : Record) (slot : ℕ) → Type 0
@@ -111,7 +114,8 @@ NeedsPage T c slot = NeedsOwnPage T c slot ⊎ NeedsReserved T c slot
 abbrev pub next_is_spread : Setup → Record → Bool
 next_is_spread T c = option_map_or (is_spread T.sizes.page_words) (object_to_make T c) false
 
--- nothing is pending: no operation on a channel, no page that is claimed and not yet linked, no object that is half made
+-- Nothing is pending: no operation on a channel, no page that is claimed and not yet linked, no object that is half made. A record has room
+-- for one of each.
 pub record IsCalm (c : Record) : Type 0 where
   pub side : c.side ≡ at_rest
   pub claim : c.memory.claim ≡ Idle
@@ -141,7 +145,7 @@ pub record IsNewWord (T : Setup) (c : Record) (i word value : ℕ) : Type 0 wher
   pub at : word ≡ cell_at (layout T) page.page (page.fill + i)
   pub opens : value ≡ opening_word (content object i)
 
--- whether all of the first n words are among these
+-- Whether all of the first n words are among these. So the code may store them in any order, and more than once.
 abbrev pub covers : ℕ → List ℕ → Bool
 covers zero stored = true
 covers (suc n) stored = if occurrences n stored == 0 then false else covers n stored
@@ -156,7 +160,7 @@ with_new_word T c f object i =
 abbrev pub filling : Setup → Record → (i : ℕ) → Record
 filling T c i = option_map_or (λ (object : Object). option_map_or (λ (f : Fill). with_new_word T c f object i) (next_page T c) c) (object_to_make T c) c
 
--- all words of this object on this page lie in pages, and a pointer to it points where it may
+-- all words of this object on this page are in pages, and a pointer to it points into them
 abbrev pub IsPlaced : Setup → Record → Fill → Object → Type 0
 IsPlaced T c f object = LieInPages T (f.page * T.sizes.page_words + f.fill) (words_of object)
     × Points T (given_type T c) (suc (f.page * T.sizes.page_words + f.fill))
@@ -196,7 +200,7 @@ with_new_word_apart T c object i =
 abbrev pub filling_apart : Setup → Record → (i : ℕ) → Record
 filling_apart T c i = option_map_or (λ (object : Object). with_new_word_apart T c object i) (object_to_make T c) c
 
--- the words that follow its address lie in pages, and a pointer to it points where it may
+-- the words that follow its address are in pages, and a pointer to it points into them
 abbrev pub IsPlacedApart : Setup → Record → Object → Type 0
 IsPlacedApart T c object = LieInPages T (reserved_address T c) (row_words T.sizes.page_words object)
     × Points T (given_type T c) (suc (reserved_address T c))

@@ -1,4 +1,5 @@
--- What the words of a table and the records of its goroutines show of the run: who has ended it, and what it has printed.
+-- What the words of a table and the records of its goroutines show of the run: which goroutine has ended it, and what it has printed. A
+-- driver learns both from records, since no goroutine reports them while it runs.
 use Rattle.std.specs.Prelude.{◌≡◌, ◌≤◌, ◌<◌, ◌^◌, ℕ, false, List, [], ◌∷◌, Some, map, slice_get, slice_index}
 use mathlib.Core.Logic.{◌↔◌}
 use Rattle.rgo_sound.specs.Code.Checked.{IsChecked}
@@ -25,8 +26,9 @@ use Rattle.rgo_core.specs.runs.Runs.{Marked, limited_run}
 abbrev pub HasSet : List Record → (g : ℕ) → Mark → Type 0
 HasSet recs g mark = (c : Record) × (slice_get recs g ≡ Some c) × (c.clock.first ≡ Some mark)
 
--- One goroutine at most has ended the run. The clock shows whether one has, and the run ended as its record says.
+-- At most one goroutine has ended the run. The clock shows whether one has, and the run ended for the reason in its record.
 pub record EndsOnce (clock : ℕ) (recs : List Record) (s : RegionState) : Type 0 where
+  -- the bit alone does not show why: that is in the record of the goroutine that has set it
   pub shown : (2 ^ 63 ≤ clock) ↔ ((g : ℕ) × (mark : Mark) × HasSet recs g mark)
   pub one : (g h : ℕ) (mark other : Mark) → HasSet recs g mark → HasSet recs h other → (g ≡ h) × (mark ≡ other)
   pub its : (g : ℕ) (mark : Mark) → HasSet recs g mark → s.mark ≡ Some mark
@@ -37,15 +39,16 @@ pub record EndsOnce (clock : ℕ) (recs : List Record) (s : RegionState) : Type 
 abbrev pub HasDrawnAt : List Record → (g i : ℕ) → Drawn → Type 0
 HasDrawnAt recs g i d = (c : Record) × (slice_get recs g ≡ Some c) × (slice_get c.clock.prints i ≡ Some d)
 
--- The print is these pieces, in the order of their tickets: all that were drawn before the run ended, and no others.
+-- The print is these pieces, in the order of their tickets: all that were drawn before the run ended, and no others. So sorting the tickets
+-- of all records gives the print.
 pub record PrintsInOrder (recs : List Record) (printed : List ℕ) : Type 0 where
   pub pieces : List (List ℕ)
   pub is : printed ≡ flattened pieces
   pub drawn : (t : ℕ) (bytes : List ℕ) → slice_get pieces t ≡ Some bytes
       → (g i : ℕ) × HasDrawnAt recs g i (record { ticket = t; bytes = bytes; is_void = false })
-  -- none of them is lost
+  -- no piece is lost
   pub kept : (g i : ℕ) (d : Drawn) → HasDrawnAt recs g i d → d.is_void ≡ false → slice_get pieces d.ticket ≡ Some d.bytes
-  -- no two have one ticket
+  -- no two pieces have the same ticket
   pub one : (g h i j : ℕ) (d e : Drawn) → HasDrawnAt recs g i d → HasDrawnAt recs h j e → d.ticket ≡ e.ticket → (g ≡ h) × (i ≡ j)
 
 -- ---- a closed table
@@ -69,7 +72,7 @@ ClosesTable T words v = Closing accesses (Core T) (opening_table T) words v
 abbrev pub OutcomeLaw : Type 0
 OutcomeLaw = (T : Setup) (words : List ℕ) (v : View Record) (end : ClosesTable T words v) → TableOutcome T words end.recs
 
--- the view has the record of `main`, and with each record those of the goroutines that it has started
+-- The view has the record of `main`, and with each record those of the goroutines that it has started. A driver can test this.
 pub record HasFamily (v : View Record) : Type 0 where
   pub main : (c : Record) × HasRow v.records 0 c
   pub children : (g h i : ℕ) (c : Record) → HasRow v.records g c → slice_get c.clock.children i ≡ Some h
@@ -82,7 +85,7 @@ FamilyLaw = (T : Setup) (words : List ℕ) (v : View Record) (end : ClosesTable 
 
 -- ---- a new table
 
--- Nothing is drawn, `main` is made, no page is claimed and no slot is used, but Global's.
+-- No ticket is drawn, `main` is counted, no page is claimed and no slot is in use except Global's.
 pub record OpensWith (T : Setup) (words : List ℕ) : Type 0 where
   pub clock : slice_index words clock_at ≡ 0
   pub made : slice_index words made_at ≡ 1

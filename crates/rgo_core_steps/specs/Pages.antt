@@ -1,4 +1,4 @@
--- The record after an access to the state of a page.
+-- The record after an access to the state of a page. The number found decides, so one function has both outcomes.
 use Rattle.std.specs.Prelude.{◌==◌, ℕ, if◌then◌else◌}
 use Rattle.rgo_core.specs.Memory.Records.{with_tried_page}
 use Rattle.rgo_core.specs.moves.Chains.{remembers}
@@ -11,7 +11,7 @@ use Rattle.rgo_core_steps.specs.Making.{next_is_spread}
 abbrev pub tried_page : Record → (page : ℕ) → Record
 tried_page c p = remembers c (with_tried_page c.memory p)
 
--- the record after it has claimed a page for a slot: the page is reserved for the next object, if that is spread, or else it is the own
+-- the record after it has claimed a page for a slot: the page is reserved for the next object if that is spread, otherwise it is the own
 -- page there
 abbrev pub claims_or_reserves : Setup → Record → (page slot : ℕ) → Record
 claims_or_reserves T c p s = if next_is_spread T c then reserves c p s else claims c p s

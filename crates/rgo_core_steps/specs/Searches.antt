@@ -1,4 +1,5 @@
--- Searches of a free place: a goroutine exchanges a word of one place after the other until it finds one that is 0.
+-- Searches of a free place: a goroutine exchanges a word of one place after the other until it finds one that is 0. Each place is tried
+-- once, at its own moment. A search in vain does not show that all were taken at one moment.
 use Rattle.std.specs.Prelude.{◌≡◌, ◌≢◌, ◌≤◌, ◌-◌, ℕ, zero, suc, List, [], ◌∷◌, ◌++◌}
 use Rattle.rgo_core.specs.Rule.Histories.{access}
 use Rattle.rgo_core.specs.Rule.Views.{Me}
@@ -19,7 +20,7 @@ around start n = upward start (n - start) ++ upward 0 start
 
 -- ---- places that are taken
 
--- a place whose word was found to be this number
+-- a place whose word was found to be this number, which is not 0
 pub record Miss : Type 0 where
   pub place : ℕ
   pub found : ℕ
@@ -32,7 +33,7 @@ abbrev pub AreTaken : List Miss → Type 0
 AreTaken [] = Unit {0}
 AreTaken (t ∷ ts) = (t.found ≢ 0) × AreTaken ts
 
--- the exchanges of these places by goroutine g: each left what it found
+-- the exchanges of these places by goroutine g: each failed, and left what it found
 abbrev pub misses : Kind → (at : ℕ → ℕ) → List Miss → (g : ℕ) → List Access
 misses kind at [] g = []
 misses kind at (t ∷ ts) g = access g kind (at t.place) t.found t.found ∷ misses kind at ts g
@@ -59,7 +60,7 @@ module _ {R : Type 0} (accesses : R → ℕ) (blank : R) (kind : Kind) (at : ℕ
     pub taken : AreTaken tries
     pub made : Made accesses blank m (λ g. misses kind at tries g ++ access g kind (at p) 0 new ∷ []) (hit (missing missed c tries)) w
 
-  -- it has tried each of n places once, beginning with any of them
+  -- It has tried each of n places once, beginning with any of them. Where it begins is left open, so that the code may choose.
   pub record TriedAll (c : R) (n : ℕ) (m w : Me R) : Type 0 where
     pub start : ℕ
     pub inside : start ≤ n

@@ -1,4 +1,5 @@
--- What calls say of the seat of a goroutine and of what an access left. T is what the table was made for.
+-- What calls state of the seat of a goroutine and of what an access left. T is what the table was made for. A call knows its seat alone:
+-- other goroutines are on other seats, and may access the table at any time.
 use Rattle.std.specs.Option.{option_map_or}
 use Rattle.std.specs.Prelude.{◌≡◌, ◌<◌, ◌≤◌, ℕ, zero, suc, [], ◌∷◌, Some, length}
 use Rattle.atomic_table.specs.Seated.{TableId}
@@ -26,7 +27,7 @@ HasOne T m = IsAlone (first_of T.code) m
 abbrev pub mine : Setup → Me Record → Record
 mine T m = record_of (first_of T.code) m
 
--- it is a possible one
+-- it is a possible one: every call of this crate promises it of the record after its access
 abbrev pub HasPossible : Setup → Me Record → Type 0
 HasPossible T m = IsPossible T (number_of m) (mine T m)
 
@@ -42,11 +43,13 @@ other T m = record_in (first_of T.code) (rest_of m.0.records)
 pub record HasTwo (T : Setup) (m : Me Record) (n : ℕ) : Type 0 where
   pub records : m.0.records ≡ (number_of m, mine T m) ∷ (n, other T m) ∷ []
   pub slots : m.1 ≡ []
+  -- so a split by number takes the new goroutine's record
   pub later : number_of m < n
 
--- ---- local steps: a goroutine makes them without an access, and its record takes them with its next access
+-- ---- Local steps: a goroutine makes them without an access, and its record takes them with its next access. A view changes only with
+-- an access, so until then only the code has them.
 
--- after the next local step; the same where the next step is none
+-- after the next local step; the same if the next step is not local
 abbrev pub settled_once : Setup → (goroutine : ℕ) → Record → Record
 settled_once T g c = option_map_or (λ e. record c { clock = clock_after c.frame.holder.duties c.clock; frame = e }) (quiet T.code g c.frame) c
 
@@ -57,9 +60,11 @@ settled_by T g (suc q) c = settled_by T g q (settled_once T g c)
 
 -- the next step is a local one
 pub record NextIsLocal (T : Setup) (g : ℕ) (c : Record) : Type 0 where
+  -- at a channel no step is local: the record is in the middle of an operation
   pub rests : c.side ≡ at_rest
   pub next : FrameRec
   pub is : quiet T.code g c.frame ≡ Some next
+  -- a call at the limit of frames ends the run, with an access
   pub shallow : length next.frames ≤ deepest
 
 -- so are the next q

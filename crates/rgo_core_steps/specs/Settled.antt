@@ -1,5 +1,5 @@
 -- Records after local steps: they stay possible, and differ from the record before in frames, in what is known of regions, and in
--- how many instructions were made.
+-- how many instructions were made. By `more` the loop may count steps one by one or in bulk.
 use Rattle.std.specs.Prelude.{◌≡◌, ◌≤◌, ◌+◌, ℕ, List, [], ◌∷◌, Some, length}
 use Rattle.rgo_sound.specs.RegionMachine.States.{Duty}
 use Rattle.rgo_core.specs.Channels.Records.{at_rest}
@@ -10,7 +10,7 @@ use Rattle.rgo_core.specs.Core.{IsPossible, Setup}
 use Rattle.rgo_core.specs.Records.{ClockRec, Record, instructed}
 use Rattle.rgo_core_steps.specs.Seats.{NextIsLocal, SettlesBy, settled_by, settled_once}
 
--- the same but for the number of instructions
+-- the same except for the number of instructions
 abbrev pub with_steps : ClockRec → ℕ → ClockRec
 with_steps c n = record c { share = record c.share { steps = n } }
 
@@ -23,7 +23,7 @@ pub record IsLocal (c d : Record) : Type 0 where
 pub record SettledLaws : Type 0 where
   pub possible : (T : Setup) (g q : ℕ) (c : Record) → IsPossible T g c → SettlesBy T g q c → IsPossible T g (settled_by T g q c)
   pub kept : (T : Setup) (g q : ℕ) (c : Record) → IsLocal c (settled_by T g q c)
-  -- p steps, and then q more
+  -- p + q steps are p steps and then q
   pub more : (T : Setup) (g p q : ℕ) (c : Record) → settled_by T g (p + q) c ≡ settled_by T g q (settled_by T g p c)
   pub settles : (T : Setup) (g p q : ℕ) (c : Record) → SettlesBy T g p c → SettlesBy T g q (settled_by T g p c) → SettlesBy T g (p + q) c
   -- one step: an instruction, or a duty

@@ -99,7 +99,7 @@ pub record StrewnExamples (limits : Limits) : Type 0 where
   pub pointer : (filling_apart (slicing limits) (storing_record (upward 0 11)) 11).frame.frames
       ≡ record { function = 0; next = 1; variables = 9 ∷ 25 ∷ [] } ∷ []
   pub points : NewPointsApart (slicing limits) (storing_record (upward 0 11)) 11
-  -- there is no page 4
+  -- page 4 does not exist
   pub points_out : NewPointsApart (slicing limits) (amid 9 (4 ∷ 1 ∷ 0 ∷ []) (Across (ints 9) (upward 0 11))) 11 → ⊥
 
 -- ---- cells

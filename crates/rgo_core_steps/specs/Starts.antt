@@ -1,4 +1,5 @@
--- Starts of goroutines: before one, and what the draw of a number leaves.
+-- Starts of goroutines: before one, and what the draw of a number leaves. The draw is the start: with it the new goroutine exists, with its
+-- record on the seat of the one that started it.
 use Rattle.std.specs.Prelude.{◌≡◌, ◌≤◌, ◌<◌, ◌+◌, ◌%◌, ℕ, false, List, Option, Some, None}
 use Rattle.rgo_sound.specs.Code.Code.{CodeFn, Go}
 use Rattle.rgo_core.specs.Channels.Records.{at_rest}
@@ -15,7 +16,8 @@ use Rattle.rgo_core.specs.Records.{Record, accesses, with_refusal}
 use Rattle.rgo_core_steps.specs.After.{child, starting}
 use Rattle.rgo_core_steps.specs.Seats.{HasTwo, HasAccessed, mine, other, settled}
 
--- The next instruction starts a goroutine, nothing is pending at a channel, and no number was refused before.
+-- The next instruction starts a goroutine, nothing is pending at a channel, and no number was refused before. After a refusal the
+-- goroutine ends the run, and must not draw again: the word has to stay small.
 pub record IsBeforeGo (T : Setup) (c : Record) : Type 0 where
   pub function : ℕ
   pub callee : CodeFn
@@ -24,7 +26,9 @@ pub record IsBeforeGo (T : Setup) (c : Record) : Type 0 where
   pub removes : List ℕ
   pub here : IsAtOp T.code c (Go function from passes removes)
   pub calls : code_function T.code function ≡ Some callee
+  -- an operation on a channel, once begun, is ended before the next instruction
   pub rests : c.side ≡ at_rest
+  -- a goroutine draws one number too many at most, so the word stays small
   pub never : c.clock.refused ≡ false
 
 -- the word of numbers becomes one more

@@ -2,7 +2,8 @@
 //! or if the channel is spread, the numbers of the data pages that have the cells.
 //!
 //! A goroutine operates on a channel in these steps, each of which is one access:
-//! 1. It loads the capacity and the control: [`capacity`], [`control`]; [`own_control`] where its own offer is at the channel.
+//! 1. It loads the capacity and the control: [`capacity`], [`control`]; [`own_control`] if its own offer is at the channel. The control
+//!    comes last, so that an answer is about the last word that was loaded.
 //! 2. It exchanges the unlocked control for the locked one: [`lock`]. If another goroutine has changed the control since, the
 //!    exchange changes nothing, and what the goroutine has decided is void: it may begin again with step 1.
 //! 3. Under the lock it loads a cell or stores one that holds nothing: [`load_cell`], [`store_cell`]. Of a spread channel it first
@@ -11,8 +12,9 @@
 //!    [`commit_send`], [`commit_receive`], [`commit_zero`], [`commit_close`], [`commit_offer`], [`commit_meet`],
 //!    [`commit_acknowledge`].
 //!
-//! All other goroutines find a locked control between 2 and 4. `behind` is how many local steps the goroutine has made since its
-//! last access. Between the accesses of one operation, and while its offer is at a channel, it makes none.
+//! All other goroutines find a locked control between 2 and 4, and decide nothing by it. So the goroutine may be stopped there, and only
+//! its own turn ends the lock. `behind` is how many local steps the goroutine has made since its last access. Between the accesses of
+//! one operation, and while its offer is at a channel, it makes none.
 //!
 //! Each call is made by the goroutine whose record is on the seat. Why: docs/DECISIONS.md, "Operations on channels".
 ghost use Rattle.std.specs.Prelude.{◌≡◌, ◌+◌, ◌-◌, ◌/◌, ◌%◌, ◌^◌, ◌<◌, ◌==◌, ℕ};
@@ -68,7 +70,7 @@ pub fn own_control(table: &RunTable, seat: &mut RunSeat, at: usize) -> u64
     load::<Record, Plan, ByRuns, Brand, _>(table, seat, at, &())
 }
 
-/// Loads the capacity, which never changes.
+/// Loads the capacity, which never changes: it may be loaded at any moment at which the goroutine is at the channel.
 pub fn capacity(table: &RunTable, seat: &mut RunSeat, behind: u64, at: usize) -> u64
     requires own { IsSeatOf seat.old.table_id table.now.shared.table_id (at + 1) }
     requires fits { at + 1 < 2 ^ 64 }
@@ -88,7 +90,7 @@ pub fn capacity(table: &RunTable, seat: &mut RunSeat, behind: u64, at: usize) ->
 
 /// Locks the channel, if its control is still `control`, which is unlocked. Returns what the control was: the channel is locked by
 /// the caller exactly if this equals `control`. Anything else means that another goroutine has operated on the channel or has it
-/// locked.
+/// locked. A failed exchange is not repeated here: that loop might never end, and it would keep a worker busy.
 pub fn lock(table: &RunTable, seat: &mut RunSeat, at: usize, control: u64) -> u64
     requires own { IsSeatOf seat.old.table_id table.now.shared.table_id at }
     requires alone { HasOne (setup_of table.now.shared.key) seat.old.me }
@@ -106,7 +108,7 @@ pub fn lock(table: &RunTable, seat: &mut RunSeat, at: usize, control: u64) -> u6
 
 // ---- cells
 
-/// Loads the number, plus 1, of the data page that has a cell of a spread channel.
+/// Loads the number, plus 1, of the data page that has a cell of a spread channel. The number never changes, so no lock is needed.
 pub fn page_number(
     table: &RunTable,
     seat: &mut RunSeat,
@@ -129,7 +131,7 @@ pub fn page_number(
     load::<Record, Plan, ByRuns, Brand, _>(table, seat, at + 2 + cell / page_words, &(at, cell))
 }
 
-/// Loads a cell, which is this word of the table, under the lock.
+/// Loads a cell, which is this word of the table, under the lock: nobody takes the value before the commit.
 pub fn load_cell(table: &RunTable, seat: &mut RunSeat, at: usize, cell: usize, word: usize) -> u64
     requires own { IsSeatOf seat.old.table_id table.now.shared.table_id word }
     requires alone { HasOne (setup_of table.now.shared.key) seat.old.me }
@@ -143,7 +145,7 @@ pub fn load_cell(table: &RunTable, seat: &mut RunSeat, at: usize, cell: usize, w
     load::<Record, Plan, ByRuns, Brand, _>(table, seat, word, &(at, cell))
 }
 
-/// Stores the word of a value in a cell that holds nothing, under the lock.
+/// Stores the word of a value in a cell that holds nothing, under the lock. It comes before the commit, which makes others read the cell.
 pub fn store_cell(
     table: &RunTable,
     seat: &mut RunSeat,
@@ -164,9 +166,10 @@ pub fn store_cell(
     store::<Record, Plan, ByRuns, Brand, _>(table, seat, word, value, &(at, cell));
 }
 
-// ---- commits. `control` is what the goroutine found when it locked the channel.
+// ---- commits. `control` is what the goroutine found when it locked the channel. Each is a plain store: no other goroutine changes
+// the control in between.
 
-/// Sends into a buffer: there is one value more.
+/// Sends into a buffer: the control counts one value more, which was stored before.
 pub fn commit_send(table: &RunTable, seat: &mut RunSeat, at: usize, control: u64)
     requires own { IsSeatOf seat.old.table_id table.now.shared.table_id at }
     requires fits { control + 4 < 2 ^ 64 }
@@ -199,7 +202,7 @@ pub fn commit_receive(table: &RunTable, seat: &mut RunSeat, at: usize, control: 
     store::<Record, Plan, ByRuns, Brand, _>(table, seat, at, new, &());
 }
 
-/// Receives zero from a closed channel in which nothing is left.
+/// Receives zero from a closed channel in which nothing is left. The control stays as it was, so this only unlocks.
 pub fn commit_zero(table: &RunTable, seat: &mut RunSeat, at: usize, control: u64)
     requires own { IsSeatOf seat.old.table_id table.now.shared.table_id at }
     requires alone { HasOne (setup_of table.now.shared.key) seat.old.me }
@@ -212,7 +215,7 @@ pub fn commit_zero(table: &RunTable, seat: &mut RunSeat, at: usize, control: u64
     store::<Record, Plan, ByRuns, Brand, _>(table, seat, at, control, &());
 }
 
-/// Closes the channel.
+/// Closes the channel. Goroutines that wait there are not touched: each sees it when it looks again.
 pub fn commit_close(table: &RunTable, seat: &mut RunSeat, at: usize, control: u64)
     requires own { IsSeatOf seat.old.table_id table.now.shared.table_id at }
     requires fits { control + 2 < 2 ^ 64 }
@@ -226,7 +229,7 @@ pub fn commit_close(table: &RunTable, seat: &mut RunSeat, at: usize, control: u6
     store::<Record, Plan, ByRuns, Brand, _>(table, seat, at, control + 2, &());
 }
 
-/// Offers a value at a channel without a buffer. The goroutine stays at its send.
+/// Offers a value at a channel without a buffer. The goroutine stays at its send, and no instruction is counted.
 pub fn commit_offer(table: &RunTable, seat: &mut RunSeat, at: usize, control: u64)
     requires own { IsSeatOf seat.old.table_id table.now.shared.table_id at }
     requires fits { control + 4 < 2 ^ 64 }
@@ -240,7 +243,8 @@ pub fn commit_offer(table: &RunTable, seat: &mut RunSeat, at: usize, control: u6
     store::<Record, Plan, ByRuns, Brand, _>(table, seat, at, control + 4, &());
 }
 
-/// Takes the offer at a channel without a buffer. Its sender acknowledges that later.
+/// Takes the offer at a channel without a buffer. Both instructions are done in the run now. Its sender acknowledges that later, since
+/// only its own accesses change its record.
 pub fn commit_meet(table: &RunTable, seat: &mut RunSeat, at: usize, control: u64)
     requires own { IsSeatOf seat.old.table_id table.now.shared.table_id at }
     requires fits { control + 4 < 2 ^ 64 }
@@ -256,7 +260,8 @@ pub fn commit_meet(table: &RunTable, seat: &mut RunSeat, at: usize, control: u64
     store::<Record, Plan, ByRuns, Brand, _>(table, seat, at, control + 4, &());
 }
 
-/// Acknowledges that the goroutine's own offer was taken: the channel has no offer then, and the goroutine leaves its send.
+/// Acknowledges that the goroutine's own offer was taken: the channel has no offer then, and the goroutine leaves its send. It has to
+/// lock like any other operation, since a close may come at the same time.
 pub fn commit_acknowledge(table: &RunTable, seat: &mut RunSeat, at: usize, control: u64)
     requires own { IsSeatOf seat.old.table_id table.now.shared.table_id at }
     requires alone { HasOne (setup_of table.now.shared.key) seat.old.me }
@@ -269,7 +274,7 @@ pub fn commit_acknowledge(table: &RunTable, seat: &mut RunSeat, at: usize, contr
     store::<Record, Plan, ByRuns, Brand, _>(table, seat, at, control - 8, &());
 }
 
-/// Where what an access asks holds, and where it does not.
+/// Where the premise of an access holds, and where it does not.
 pub fn examples()
     ensures { ChannelAccessExamples }
 {}

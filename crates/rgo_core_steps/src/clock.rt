@@ -2,13 +2,14 @@
 //!
 //! 1. A goroutine that prints finishes the piece, then adds 1: the number found is its ticket. No other access draws a
 //!    ticket, so no two pieces have the same one.
-//! 2. A goroutine that ends the run sets bit 63. Who found it clear has ended the run; all later ones change nothing.
+//! 2. A goroutine that ends the run sets bit 63. The one that finds it clear has ended the run; all later ones change nothing.
 //! 3. A ticket that was drawn after that is void: its piece is not part of the print.
 //!
 //! The end is one bit of the same word, set by an `or`: one access draws a ticket and shows whether the print still counts, and no
 //! access has to be tried again. Why: docs/DECISIONS.md, "Tables of words".
 //!
-//! `behind` is how many local steps the goroutine has made since its last access. The code does not use it.
+//! `behind` is how many local steps the goroutine has made since its last access. The code does not use it: it is for the proof, which
+//! puts these steps into the run directly before the access.
 ghost use Rattle.std.specs.Prelude.{◌≡◌, ◌≤◌, ◌<◌, ◌+◌, ◌%◌, ◌^◌, ℕ, bit_or, true};
 ghost use mathlib.Core.Logic.{◌↔◌};
 ghost use Rattle.rgo_core.specs.runs.Plans.{setup_of};
@@ -82,7 +83,8 @@ pub fn look(table: &RunTable, seat: &mut RunSeat, behind: u64) -> bool
     load::<Record, Plan, ByRuns, Brand, _>(table, seat, 0, &behind) >= 1 << 63
 }
 
-/// Sets the end mark, for which the record of the goroutine shows the cause. Returns whether this has ended the run.
+/// Sets the end mark, for which the record of the goroutine shows the cause. Returns whether this has ended the run: `false` means that
+/// another goroutine had ended it before, for its own reason.
 pub fn finish(table: &RunTable, seat: &mut RunSeat, behind: u64, mark: Mark) -> bool
     requires own { IsSeatOf seat.old.table_id table.now.shared.table_id clock_at }
     requires alone { HasOne (setup_of table.now.shared.key) seat.old.me }

@@ -1,10 +1,11 @@
-//! A count of atomic accesses to a table. It takes no bytes and no time.
+//! A count of atomic accesses to a table, by which contracts bound the accesses of a call. It takes no bytes and no time, since only
+//! proofs read it.
 ghost use Rattle.std.specs.Prelude.{◌≡◌, ◌+◌, ◌<◌, ℕ};
 
 use std::marker::Model;
 use std::sync::ledger::{Blank, Book, Ledger, Share};
 
-/// How many accesses were made. Only [`Steps::tick`] changes it.
+/// How many accesses were made. Only [`Steps::tick`] changes it. No call of this crate ticks by itself: the caller does, once for each.
 #[derive(Drop)]
 pub struct Steps<L: Ledger> {
     book: Book<L>,

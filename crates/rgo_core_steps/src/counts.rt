@@ -6,7 +6,8 @@
 //! 3. `leave` subtracts 1. The goroutine that finds 2 ended the last stake: it alone returns the pages.
 //! 4. `free_slot` stores 0, after the pages are free and the head of their chain is 0.
 //!
-//! A count other than 0 is never taken by `create`, so the slot stays with its region until step 4. Each call is made by the
+//! A count other than 0 is never taken by `create`, so the slot stays with its region until step 4. Only goroutines with a stake there
+//! access the count in steps 2 and 3, so it cannot fall to 1 while one of them is about to add. Each call is made by the
 //! goroutine whose record is on the seat. Why: docs/DECISIONS.md, "Counts and pages as words".
 ghost use Rattle.std.specs.Prelude.{◌≡◌, ◌<◌, ◌≤◌, ◌+◌, ◌-◌, ◌%◌, ◌^◌, ◌==◌, ℕ, false};
 ghost use prog.Atomic.{either};
@@ -37,7 +38,8 @@ pub fn looks_free(table: &RunTable, sizes: &TableSizes, slot: usize) -> bool
 }
 
 /// Takes a slot for the region that the first duty creates, if the count found is 0: the goroutine has no stake in a region of the
-/// slot before. Otherwise nothing changes, and the record remembers that this slot was found in use.
+/// slot before. Otherwise nothing changes, and the record remembers that this slot was found in use. It may be free again at once, so
+/// the memory of it proves only that some region was created there.
 pub fn create(
     table: &RunTable,
     seat: &mut RunSeat,
@@ -70,7 +72,8 @@ pub fn create(
     )
 }
 
-/// Takes the stake of a goroutine that is about to start: the first duty.
+/// Takes the stake of a goroutine that is about to start: the first duty. It comes before the start, since afterwards the last stake of
+/// the others may end before the new goroutine's first step.
 pub fn share(
     table: &RunTable,
     seat: &mut RunSeat,
@@ -93,8 +96,8 @@ pub fn share(
     fetch_add::<Record, Plan, ByRuns, Brand, _>(table, seat, count_at(sizes, slot), 1, &behind)
 }
 
-/// Ends a stake of the goroutine: the first duty. It was the last where the count found is 2; then the pages of the region are to
-/// be returned.
+/// Ends a stake of the goroutine: the first duty. It was the last if the count found is 2; then the pages of the region are to
+/// be returned, by this goroutine and before its next duty. Two goroutines never both find 2, since each subtracts.
 pub fn leave(
     table: &RunTable,
     seat: &mut RunSeat,
@@ -123,7 +126,7 @@ pub fn leave(
     )
 }
 
-/// Frees the slot of a region whose pages are free again.
+/// Frees the slot of a region whose pages are free again, and whose head is 0. A plain store, since nobody else accesses a count of 1.
 pub fn free_slot(table: &RunTable, seat: &mut RunSeat, sizes: &TableSizes, slot: usize)
     requires own { seat.old.table_id ≡ table.now.shared.table_id }
     requires layout { HasLayout (setup_of table.now.shared.key) sizes.now table.now.shared.table_id }

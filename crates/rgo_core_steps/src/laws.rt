@@ -1,5 +1,5 @@
-//! What the words of a table and the records of its goroutines say of the run, as a table opens, while it is used, and when it is
-//! closed.
+//! What follows from the words of a table and the records of its goroutines for the run, as a table opens, while it is used, and when
+//! it is closed. A driver's claim about a whole run begins with these.
 ghost use Rattle.rgo_core_steps.specs.Examples.{AfterExamples, RunEndExamples, OutcomeExamples, SeatExamples, StartExamples};
 ghost use Rattle.rgo_core_steps.specs.Outcomes.{FamilyLaw, FirstLaw, OutcomeLaw};
 ghost use Rattle.rgo_core_steps.specs.Settled.{SettledLaws};
@@ -10,22 +10,25 @@ pub fn first_law()
     ensures { FirstLaw }
 {}
 
-/// A closed table shows a run, who has ended it, and what it has printed.
+/// A closed table shows a run, which goroutine has ended it, and what it has printed. Only then is it known: while others have seats,
+/// their records may change.
 pub fn outcome_law()
     ensures { OutcomeLaw }
 {}
 
-/// A seat to which the records of `main` and of all that its goroutines have started came back has all records.
+/// A seat that has the record of `main`, and with each record those of the goroutines that it has started, has all records. So no
+/// goroutines have to be counted.
 pub fn family_law()
     ensures { FamilyLaw }
 {}
 
-/// A seat whose goroutine has started another has both records.
+/// A seat whose goroutine has started another has both records, until the driver splits it.
 pub fn started_law()
     ensures { StartedLaw }
 {}
 
-/// Local steps keep a record possible, and change nothing but frames, regions and the number of instructions.
+/// Local steps keep a record possible, and change only frames, what is known of regions, and the number of instructions. So code that makes
+/// many of them needs no look at the table to go on.
 pub fn settled_laws()
     ensures { SettledLaws }
 {}

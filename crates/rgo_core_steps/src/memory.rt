@@ -2,8 +2,9 @@
 //! loaded before an access to one of its elements, and the number of a data page before one to a cell of a spread object; and each
 //! word of a new object is stored once before the object exists.
 //!
-//! Only the goroutine itself may use these calls, and only if its record says that the access is its next one. No word is locked: a
-//! load finds what the last store to the word has left, whoever made it. Why: docs/DECISIONS.md, "Tables of words".
+//! Only the goroutine itself may use these calls, and only if its record shows that the access is its next one. No word is locked: a
+//! load finds what the last store to the word has left, whichever goroutine made it. The region cannot go meanwhile, since the
+//! goroutine has a stake in it. Why: docs/DECISIONS.md, "Tables of words".
 ghost use Rattle.std.specs.Prelude.{◌≡◌, ◌+◌, ◌-◌, ◌/◌, ◌%◌, ◌<◌, ℕ};
 ghost use Rattle.rgo_core.specs.moves.Cells.{IsAtSpread, locates, measures};
 ghost use Rattle.rgo_core.specs.ties.Bounds.{LieInPages, Points, slice_words};
@@ -24,7 +25,7 @@ use rgo_core::table::{ByRuns, Plan, RunSeat, RunTable};
 use std::marker::Brand;
 
 /// Loads a word as the next instruction: a field, an element, the length of a slice or a package variable. If it is a pointer, a
-/// slice or a channel, it is nil or leads to words of pages.
+/// slice or a channel, it is nil or leads to words of pages, whichever goroutine has stored it.
 pub fn load(table: &RunTable, seat: &mut RunSeat, behind: u64, word: usize) -> u64
     requires own { IsSeatOf seat.old.table_id table.now.shared.table_id word }
     requires alone { HasOne (setup_of table.now.shared.key) seat.old.me }
@@ -57,8 +58,9 @@ pub fn length_of_nil(table: &RunTable, seat: &mut RunSeat, behind: u64)
     steps::load::<Record, Plan, ByRuns, Brand, _>(table, seat, 0, &behind);
 }
 
-/// Loads the length of the slice at this address, before the next instruction loads or stores one of its elements. The elements all
-/// lie in pages; if the slice is spread, the numbers of its data pages do. The length never changes.
+/// Loads the length of the slice at this address, before the next instruction loads or stores one of its elements. The elements are all
+/// in pages; if the slice is spread, the numbers of its data pages are. The length never changes, but it may be used only up to the
+/// next instruction: then another slice may have the address.
 pub fn measure(
     table: &RunTable,
     seat: &mut RunSeat,
@@ -112,7 +114,8 @@ pub fn index(
     )
 }
 
-/// Stores a word as the next instruction: to a field, an element or a package variable.
+/// Stores a word as the next instruction: to a field, an element or a package variable. What another goroutine has stored there before is
+/// lost, as in any race.
 pub fn store(table: &RunTable, seat: &mut RunSeat, behind: u64, word: usize, value: u64)
     requires own { IsSeatOf seat.old.table_id table.now.shared.table_id word }
     requires alone { HasOne (setup_of table.now.shared.key) seat.old.me }
@@ -128,7 +131,7 @@ pub fn store(table: &RunTable, seat: &mut RunSeat, behind: u64, word: usize, val
 }
 
 /// Stores the first value of a word of the object that the next instruction makes. The words may be stored in any order; with the
-/// last one the object exists, and the instruction is done.
+/// last one the object exists, and the instruction is done. Pages are not cleared when they are freed, so each word has to be stored.
 pub fn zero(
     table: &RunTable,
     seat: &mut RunSeat,
@@ -151,8 +154,8 @@ pub fn zero(
     steps::store::<Record, Plan, ByRuns, Brand, _>(table, seat, word, value, &(index, behind));
 }
 
-/// The same of a word of a spread object, which lies in the pages that are reserved for it. The numbers of its data pages have to be
-/// stored, too.
+/// The same of a word of a spread object, which is in the pages that are reserved for it. The numbers of its data pages have to be
+/// stored, too: the last store of either kind makes the object.
 pub fn zero_apart(
     table: &RunTable,
     seat: &mut RunSeat,

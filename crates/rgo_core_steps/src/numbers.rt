@@ -3,7 +3,7 @@
 //!
 //! A number that was drawn at the limit is lost. It is not subtracted again: another goroutine may have drawn in between.
 //!
-//! `behind` is how many local steps the goroutine has made since its last access. The code does not use it.
+//! `behind` is how many local steps the goroutine has made since its last access. The code does not use it: it is for the proof.
 ghost use Rattle.std.specs.Prelude.{◌≡◌, IfSome};
 ghost use Rattle.rgo_core.specs.Core.{IsPossible};
 ghost use Rattle.rgo_core.specs.runs.Plans.{setup_of};
@@ -18,8 +18,8 @@ use rgo_sound::machine::Limits;
 use std::marker::Brand;
 
 /// Draws a number for the goroutine that the next instruction starts, and returns it. The seat then has its record beside that of
-/// the goroutine that started it. `None` if there are as many goroutines as there may be; the
-/// record remembers that it was refused.
+/// the goroutine that started it. It has to be called after the stakes of the new goroutine were taken. `None` if there are as many
+/// goroutines as there may be; the record remembers that it was refused, and may end the run for that reason at any time later.
 pub fn number(table: &RunTable, seat: &mut RunSeat, behind: u64, limits: &Limits) -> Option<u64>
     requires own { IsSeatOf seat.old.table_id table.now.shared.table_id made_at }
     requires limits { limits.now ≡ table.now.shared.key.limits }

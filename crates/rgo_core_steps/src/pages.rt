@@ -43,7 +43,7 @@ pub fn looks_free(table: &RunTable, sizes: &TableSizes, page: usize) -> bool
 
 /// Claims a page for the slot of the region in which the next instruction makes an object, if its state is found 0: the own page
 /// there, or a page that is reserved for the object, if that is spread. If the state is not 0, nothing changes, and the record
-/// remembers that this page was found in use.
+/// remembers that this page was found in use. Of several goroutines that try one page, exactly one finds 0.
 pub fn claim(
     table: &RunTable,
     seat: &mut RunSeat,
@@ -77,7 +77,8 @@ pub fn claim(
     )
 }
 
-/// Puts the claimed page at the head of the chain of its slot, and returns the head that was there.
+/// Puts the claimed page at the head of the chain of its slot, and returns the head that was there. A swap cannot fail, however many
+/// goroutines hang pages there at once.
 pub fn hang(
     table: &RunTable,
     seat: &mut RunSeat,
@@ -101,7 +102,8 @@ pub fn hang(
     swap::<Record, Plan, ByRuns, Brand, _>(table, seat, word, page as u64 + 1, &(page, slot))
 }
 
-/// Links the page at the head of its chain to `old`, the head before it.
+/// Links the page at the head of its chain to `old`, the head before it. The goroutine must do so before it ends its stake there: the
+/// chain is read after that.
 pub fn link(
     table: &RunTable,
     seat: &mut RunSeat,
@@ -141,7 +143,8 @@ pub fn head(table: &RunTable, seat: &mut RunSeat, sizes: &TableSizes, slot: usiz
     load::<Record, Plan, ByRuns, Brand, _>(table, seat, head_at(sizes, slot), &slot)
 }
 
-/// Loads the page after this one in a chain that is being returned, by its number plus 1; 0 after the last.
+/// Loads the page after this one in a chain that is being returned, by its number plus 1; 0 after the last. It is called before the page
+/// is freed.
 pub fn next(
     table: &RunTable,
     seat: &mut RunSeat,
@@ -164,7 +167,8 @@ pub fn next(
     load::<Record, Plan, ByRuns, Brand, _>(table, seat, next_at(sizes, page), &(slot, page))
 }
 
-/// Frees a page of a chain that is being returned, once the page after it is known.
+/// Frees a page of a chain that is being returned, once the page after it is known. Another goroutine may claim it at once, so this
+/// goroutine must not access the page any more.
 pub fn free(
     table: &RunTable,
     seat: &mut RunSeat,
@@ -187,7 +191,7 @@ pub fn free(
     store::<Record, Plan, ByRuns, Brand, _>(table, seat, state_at(sizes, page), 0, &(slot, next));
 }
 
-/// Clears the head of a chain once all its pages are free.
+/// Clears the head of a chain once all its pages are free. Once at the end is enough, since nobody reads the head before the slot is free.
 pub fn clear(table: &RunTable, seat: &mut RunSeat, sizes: &TableSizes, slot: usize)
     requires own { seat.old.table_id ≡ table.now.shared.table_id }
     requires layout { HasLayout (setup_of table.now.shared.key) sizes.now table.now.shared.table_id }

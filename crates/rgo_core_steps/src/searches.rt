@@ -1,4 +1,4 @@
-//! What records say of new objects, of counts and of searches, by examples. The calls of [`crate::memory`], [`crate::pages`] and
+//! What records show of new objects, of counts and of searches, by examples. The calls of [`crate::memory`], [`crate::pages`] and
 //! [`crate::counts`], and those of several accesses above them, cite the definitions.
 ghost use Rattle.rgo_core_steps.specs.MemoryExamples.{CountExamples, MakingExamples, SearchExamples};
 ghost use Rattle.rgo_core_steps.specs.SpreadExamples.{SpreadAccessExamples};

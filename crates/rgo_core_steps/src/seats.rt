@@ -10,7 +10,8 @@ use rgo_core::records::Record;
 use rgo_core::rule::seats::{part, retire};
 use rgo_core::table::{ByRuns, Plan, RunSeat, RunTable};
 
-/// The record of a goroutine that has started goes to a seat of its own, which has seen the same accesses.
+/// The record of a goroutine that has started goes to a seat of its own, which has seen the same accesses. It must be done before another
+/// thread runs the new goroutine: a seat is used by one thread at a time.
 pub fn split(table: &RunTable, seat: &mut RunSeat, number: u64) -> RunSeat
     requires own { IsSeatOf seat.old.table_id table.now.shared.table_id clock_at }
     requires two { HasTwo (setup_of table.now.shared.key) seat.old.me number }
@@ -28,7 +29,7 @@ pub fn split(table: &RunTable, seat: &mut RunSeat, number: u64) -> RunSeat
     part::<Record, Plan, ByRuns>(table, seat, number)
 }
 
-/// All records of another seat come to this one, which has then seen what either had.
+/// All records of another seat come to this one, which has then seen what either had. That seat's goroutines can make no access any more.
 pub fn join(table: &RunTable, seat: &mut RunSeat, other: RunSeat)
     requires own { IsSeatOf seat.old.table_id table.now.shared.table_id clock_at }
     requires other { IsSeatOf other.table_id table.now.shared.table_id clock_at }
@@ -41,7 +42,7 @@ pub fn join(table: &RunTable, seat: &mut RunSeat, other: RunSeat)
     retire::<Record, Plan, ByRuns>(table, seat, other);
 }
 
-/// Each of two seats has then seen what either had. No record passes.
+/// Each of two seats has then seen what either had. No record passes. A pass over all goroutines is made of these.
 pub fn meet(table: &RunTable, seat: &mut RunSeat, other: &mut RunSeat)
     requires own { IsSeatOf seat.old.table_id table.now.shared.table_id clock_at }
     requires other { IsSeatOf other.old.table_id table.now.shared.table_id clock_at }

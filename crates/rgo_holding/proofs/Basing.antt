@@ -1,4 +1,4 @@
--- The regions that a goroutine protects since its start, the first of them last.
+-- The regions that a goroutine protects since its start, the first of them last: the list is the reverse of the machine's.
 use Rattle.std.proofs.Common.{◌≡◌, ◌<◌, ◌+◌, ◌-◌, ℕ, List, [], ◌∷◌, ◌++◌, Option, Some, None, ap, arith, get_or, length, map, option_map, refl, reverse, slice_get, sym, take, ◌∙◌}
 use Rattle.std.proofs.lemmas.List.{get_or-reverse, length-reverse, reverse-append, take_all, take_more}
 use Rattle.std.proofs.lemmas.Option.{none-some, same_Some, slice_get-get_or, slice_get-map}

@@ -1,4 +1,4 @@
--- What a goroutine has after a call.
+-- What a goroutine has after a call. The code passes keys and the machine regions, and the map from keys to regions commutes with both.
 use Rattle.std.proofs.Common.{◌≡◌, ℕ, Bool, true, false, List, [], ◌∷◌, Option, Some, None, ap, arith, if◌then◌else◌, length, map, nat_eq, option_map, refl, reverse, subst, sym, ◌∙◌}
 use Rattle.std.proofs.lemmas.Option.{none-some, same_Some}
 use Rattle.rgo_core_memory.specs.Records.{Fill}
@@ -23,7 +23,7 @@ use Rattle.rgo_holding.proofs.EntryLemmas.{slot_if}
 use Rattle.rgo_holding.proofs.Moving.{moved, renamed_shows}
 use Rattle.rgo_holding.proofs.NameLemmas.{entered, stand_cleared}
 
--- nothing has changed but memory
+-- only memory has changed
 pub same_tables_show : (k : Holding) (f : Frames) (slots : ℕ) (h : Holder) (fills : List Fill) → IsHoldingOf slots k h fills
     → SameTables k.frames f → IsHoldingOf slots (record k { frames = f }) h fills
 same_tables_show k f slots h fills shows same =

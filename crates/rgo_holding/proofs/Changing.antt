@@ -1,4 +1,5 @@
--- What each operation on one entry does to what a goroutine has.
+-- What each operation on one entry does to what a goroutine has. Each operation changes one field of one entry, and one part of what is
+-- shown. No other entry has the slot, so all other parts stay.
 use Rattle.std.proofs.Common.{◌≡◌, ◌≢◌, ◌<◌, ◌+◌, ◌-◌, ℕ, Bool, true, false, ◌||◌, List, ◌∷◌, Option, Some, None, Vec, Global, ap, arith, if◌then◌else◌, length, map, nat_eq, nat_lt, option_map, refl, reverse, slice_set, subst, sym, ◌∙◌}
 use Rattle.std.specs.List.{list_any}
 use Rattle.rgo_core_memory.specs.Records.{Fill, dropped, page_of, raised}
@@ -142,7 +143,7 @@ module _ (k : Holding) (key : Key) (e : Entry) (v : Vec Entry Global) (at : entr
       ∙ ap (option_map (filled words)) (shows.pages key e at) ∙ sym (page_filled e.slot words fills))
       (λ s n. page_raised s e.slot words fills (ne_of e.slot s (λ x. n (sym x)))))
 
-  -- where there is no own page, nothing is filled
+  -- without an own page nothing is filled
   pub no_fill_shows : (words : ℕ) → e.page ≡ None → (r : Region) → region_of_key k key ≡ Some r
       → IsHoldingOf slots k h (raised (slot_or_global slots r) words fills)
   no_fill_shows words none r region =

@@ -1,4 +1,5 @@
--- What a goroutine has, as regions come and go.
+-- What a goroutine has, as regions come and go. For a region that is left it has to be shown that no frame and no base has its key. For a
+-- new one, that nothing is known of its slot, so its empty entry is right.
 use Rattle.std.proofs.Common.{◌≡◌, ◌≢◌, ◌≤◌, ◌<◌, ℕ, Bool, true, false, ◌||◌, List, [], ◌∷◌, Option, Some, None, Vec, Global, ap, arith, if◌then◌else◌, length, map, nat_eq, option_map, refl, reverse, slice_set, subst, sym, true≢false, ◌∙◌}
 use Rattle.std.proofs.lemmas.Option.{none-some, same_Some}
 use Rattle.std.specs.List.{AllByRecursion, list_any}
@@ -26,7 +27,7 @@ use Rattle.rgo_holding.proofs.EntryLemmas.{Puts, apart, each_put, entry_there, m
 use Rattle.rgo_holding.proofs.Moving.{renamed_shows}
 use Rattle.rgo_holding.proofs.NameLemmas.{names_but, names_kept, names_same, stand_bound}
 
--- ---- what is kept beside it may change
+-- ---- what the entries do not show may change
 
 pub reshown : (k : Holding) (v : Vec Entry Global) (free : Vec Key Global) (next : Option Key)
     (passed callee : Vec (Option Key) Global) (slots : ℕ) (es : List RegionEnvironment) (base : List Region)
@@ -67,7 +68,7 @@ numbered_slot slots s p e = go (nat_eq s slots) refl e
     go true t e = cc
     go false f e = (cc, λ x. true≢false (sym (ap (nat_eq s) (sym x) ∙ nat_eq_refl s) ∙ f))
 
--- a base without this region is of the same keys
+-- a base without this region has the same keys
 base_but : (before after : Key → Option Region) (gone : Region)
     → ((key : Key) (r : Region) → before key ≡ Some r → r ≢ gone → after key ≡ Some r) → (keys : List Key) (base : List Region)
     → list_any (same_region gone) base ≡ false → map before keys ≡ map Some base → map after keys ≡ map Some base

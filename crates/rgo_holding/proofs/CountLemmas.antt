@@ -1,4 +1,4 @@
--- What the machine counts: protections, own pages, stakes.
+-- What the machine has in lists and an entry in numbers: protections, own pages, stakes.
 use Rattle.std.proofs.Common.{◌≡◌, ◌≢◌, ◌≤◌, ◌<◌, ◌+◌, ℕ, Bool, true, false, ◌||◌, List, [], ◌∷◌, ◌++◌, Some, None, ap, arith, if◌then◌else◌, length, nat_eq, nat_lt, option_map, refl, sym, true≢false, ◌∙◌}
 use Rattle.std.proofs.lemmas.Option.{none-some}
 use Rattle.std.specs.List.{AllByRecursion, list_any}
@@ -178,7 +178,7 @@ page_filled s n (f ∷ fs) = go (nat_eq s f.slot) refl (page_filled s n fs)
     go true e rest = ap (λ b. if b then Some (filled n f) else page_of s (raised s n fs)) e
     go false e rest = ap (λ b. if b then Some f else page_of s (raised s n fs)) e ∙ rest
 
--- without an own page there is nothing to fill
+-- without an own page nothing is filled
 pub unraised : (s n : ℕ) (fills : List Fill) → page_of s fills ≡ None → raised s n fills ≡ fills
 unraised s n [] none = refl
 unraised s n (f ∷ fs) none = go (nat_eq s f.slot) none (unraised s n fs)

@@ -1,4 +1,4 @@
--- Entries are written: each key but one has the entry that it had.
+-- Entries are written: each key but one has the same entry as before. All facts about entries then go by two cases.
 use Rattle.std.proofs.Common.{◌≡◌, ◌≢◌, ℕ, Bool, true, false, List, [], ◌∷◌, Option, Some, None, ap, if◌then◌else◌, map, nat_eq, option_map, refl, slice_get, slice_set, subst, sym, true≢false, ◌∙◌}
 use Rattle.std.proofs.lemmas.Option.{none-some, same_Some}
 use Rattle.rgo_sound.specs.RegionMachine.declared.regions.Region.{Region}

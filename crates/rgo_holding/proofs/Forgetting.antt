@@ -1,4 +1,4 @@
--- Rounds begin: no stake is taken for a coming child.
+-- Rounds begin again: no stake is pending, since the round is 1 and each entry's number is 0. All else in the entries is as before.
 use Rattle.std.proofs.Common.{◌≡◌, ◌≢◌, ◌≤◌, ℕ, true, List, [], Option, Some, None, Vec, Global, ap, arith, nat_eq, option_map, refl, reverse, subst, sym, ◌∙◌}
 use Rattle.std.proofs.lemmas.Option.{none-some, same_Some}
 use Rattle.std.specs.List.{list_any}

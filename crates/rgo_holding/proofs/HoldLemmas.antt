@@ -1,4 +1,4 @@
--- What a goroutine has is still shown after the entry of one region has changed.
+-- What a goroutine has is still shown after the entry of one region has changed: its slot stays, so keys and names mean what they meant.
 use Rattle.std.proofs.Common.{◌≡◌, ◌≢◌, ◌≤◌, ℕ, true, List, [], ◌∷◌, Option, Some, None, Vec, Global, ap, if◌then◌else◌, length, map, nat_eq, option_map, refl, reverse, slice_set, subst, sym, ◌∙◌}
 use Rattle.std.specs.List.{list_any}
 use Rattle.rgo_core_memory.specs.Records.{Fill, page_of}
@@ -34,7 +34,7 @@ module _ (k : Holding) (key : Key) (e f : Entry) (v : Vec Entry Global) (at : en
 
   module _ (slots : ℕ) (es : List RegionEnvironment) (base : List Region) (pending : List ℕ) (stakes : List ℕ)
       (fills : List Fill) (h : HoldingShows slots k es base pending stakes fills) where
-    -- of each other entry
+    -- each other entry
     other : (P : Key → Entry → Type 0) → P key f
         → ((a : Key) (x : Entry) → x.slot ≢ e.slot → entry_at k a ≡ Some x → P a x)
         → (a : Key) (x : Entry) → after a ≡ Some x → P a x
@@ -87,7 +87,7 @@ module _ (k : Holding) (key : Key) (e f : Entry) (v : Vec Entry Global) (at : en
               (λ a x n old. h.staked a x old);
         }
 
--- ---- the environments' names, where protections change
+-- ---- the environments' names, when protections change
 
 pub protecting_names : (region : Key → Option Region) (r : Region) (es : List RegionEnvironment) (k : Holding)
     → NamesStand region (named_frames k.frames) es → NamesStand region (named_frames k.frames) (with_protection es r)

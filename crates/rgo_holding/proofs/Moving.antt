@@ -1,4 +1,5 @@
--- What a goroutine has, as names end and are made, and frames come and go.
+-- What a goroutine has, as names end and are made, and frames come and go. Entries stay, so only names and the numbers of protections
+-- in the environments are to be compared.
 use Rattle.std.proofs.Common.{◌≡◌, ◌-◌, ℕ, List, [], ◌∷◌, ◌++◌, None, ap, arith, length, refl, slice_set, subst, sym, ◌∙◌}
 use Rattle.rgo_core_memory.specs.Records.{Fill}
 use Rattle.rgo_sound.specs.RegionMachine.Regions.{Bindings, unbind}
@@ -14,7 +15,7 @@ use Rattle.rgo_holding.specs.Tables.{IsOrdered, Keys, NamesStand, StandFor, key_
 use Rattle.rgo_holding.proofs.CountLemmas.{above_protections, bare_protections, below_protections, renamed_protections}
 use Rattle.rgo_holding.proofs.NameLemmas.{change_newest, same_newest, settled, stand_unbound}
 
--- other frames, where each region has as many protections
+-- other frames, in which each region has equally many protections
 pub moved : (k : Holding) (f : Frames) (slots : ℕ) (es others : List RegionEnvironment) (base : List Region)
     (pending stakes : List ℕ) (fills : List Fill) → HoldingShows slots k es base pending stakes fills → f.depth ≡ length others
     → IsOrdered f → NamesStand (region_of_key k) (named_frames f) others

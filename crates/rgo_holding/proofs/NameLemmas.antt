@@ -1,4 +1,5 @@
--- What the keys of a goroutine's frames stand for, as names end and are made, frames come and go, and regions are left.
+-- What the keys of a goroutine's frames stand for, as names end and are made, frames come and go, and regions are left. By induction over
+-- the environments, with a table at the height of some of them. No table is higher than the frames.
 use Rattle.std.proofs.Common.{◌≡◌, ◌≢◌, ◌≤◌, ◌<◌, ℕ, zero, suc, Bool, true, false, List, [], ◌∷◌, ◌++◌, Option, Some, None, ap, arith, if◌then◌else◌, length, nat_eq, nat_lt, option_map, refl, slice_set, subst, sym, ◌∙◌}
 use Rattle.std.proofs.lemmas.Option.{none-some, same_Some}
 use Rattle.std.specs.List.{AllByRecursion}
@@ -76,7 +77,7 @@ module _ (region : Key → Option Region) where
 
   -- ---- frames
 
-  -- the frames have tables of no greater height than there are frames
+  -- no table has a height above the number of frames
   height_within : (f : Named) (fs : List Named) (es : List RegionEnvironment) → NamesStand region (f ∷ fs) es → f.height ≤ length es
   height_within f fs [] h = absurd (no_cons h)
     where

@@ -1,4 +1,5 @@
--- What a call passes and leaves to its callee, as the code goes over its lists from the front.
+-- What a call passes and leaves to its callee, as the code goes over its lists from the front. The machine's definitions are recursive
+-- from the front, too, so the invariant of each loop is the definition on what is left.
 use Rattle.std.proofs.Common.{◌≡◌, ◌⊎◌, ◌<◌, ◌+◌, ℕ, zero, suc, Bool, true, false, not, ◌||◌, List, [], ◌∷◌, Option, Some, None, Result, Ok, Err, OnOk, ap, arith, drop, get_or, if◌then◌else◌, is_err, is_some, length, nat_eq, refl, slice_set, subst, sym, true≢false, ◌∙◌, ⊎_elim}
 use Rattle.std.proofs.lemmas.Bool.{cases_lt, eq-eqb, eqb-true, ne_eqb, or_from, or_left, or_right}
 use Rattle.std.proofs.lemmas.List.{at_drop_more}

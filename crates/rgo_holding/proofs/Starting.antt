@@ -1,4 +1,5 @@
--- What a goroutine that is about to start comes to know.
+-- What a goroutine that is about to start comes to know. Learning a region adds one entry, whose slot no other entry has. The order is
+-- that of the code: all regions, then the base, then the names.
 use Rattle.std.proofs.Common.{◌≡◌, ◌≢◌, ◌⊎◌, ◌<◌, ◌+◌, ℕ, zero, suc, Bool, true, false, List, [], ◌∷◌, ◌++◌, Option, Some, None, Vec, Global, ap, arith, get_or, if◌then◌else◌, inl, inr, length, map, nat_eq, option_map, refl, reverse, slice_set, subst, sym, take, ◌∙◌, true≢false, ◌||◌}
 use Rattle.std.proofs.lemmas.List.{reverse-append, take_more}
 use Rattle.std.proofs.lemmas.Option.{none-some, same_Some}
@@ -252,7 +253,7 @@ given_known slots stakes k known tracks is (key ∷ keys) (Some (Numbered q) ∷
         subst (λ x. (x ≢ slots) × (known x ≢ None)) (sym (eq_of p q t)) (all.0.0, found key (head_same e))
     go false f h rest = rest h
 
--- and so is one that is given twice
+-- a region that is given twice is known, too
 pub twice_known : (slots : ℕ) (stakes : List ℕ) (k : Holding) (known : ℕ → Option Key) → Tracks k known → k.slots ≡ slots
     → (keys : List (Option Key)) (given : List (Option Region)) (found : List ℕ) → AreGiven slots stakes given
     → map (option_map (region_of_key k)) keys ≡ map (option_map Some) given → map Numbered (reverse found) ≡ twice given

@@ -1,4 +1,4 @@
--- Keys are written and added in the table of the newest frame.
+-- Keys are written and added in the table of the newest frame. Its keys are the end of the list, so other frames keep theirs.
 use Rattle.std.proofs.Common.{◌≡◌, ◌+◌, ℕ, zero, suc, Bool, true, false, List, [], ◌∷◌, ◌++◌, Option, Some, None, ap, arith, drop, if◌then◌else◌, nat_eq, refl, replicate, slice_set, subst, sym, take, ◌∙◌}
 use Rattle.std.proofs.lemmas.List.{drop-append-le, drop-set-add, length-append, length-set, take-append-le, take-set-le}
 use Rattle.std.proofs.lemmas.Option.{none-some, same_Some}

@@ -1,4 +1,5 @@
--- Regions that are given at two positions, as the code finds them from the back.
+-- Regions that are given at two positions, as the code finds them from the back. The invariant has for each region whether it was seen
+-- not at all, once or more often from the position on. The second time puts it on the list.
 use Rattle.std.proofs.Common.{◌≡◌, ℕ, ◌+◌, ◌-◌, ◌<◌, ◌≤◌, Bool, true, false, not, ◌&&◌, ◌||◌, List, [], ◌∷◌, ⊎_elim, length, drop}
 use Rattle.std.proofs.Common.{Option, Some, None, refl, sym, ap, ◌∙◌, arith, nat_eq, if◌then◌else◌, get_or, is_some, Result, Ok, Err, is_err, OnOk}
 use Rattle.std.proofs.lemmas.Bool.{false_from_ne_true, true≢false, eqb-true, eq-eqb, ne_eqb, cases_eq}
@@ -12,7 +13,7 @@ use Rattle.rgo_sound.proofs.Tests.{nat_eq_refl}
 
 -- ---- what was seen of the regions from the back
 
--- whether it was seen twice; None where it was not seen
+-- whether it was seen twice; None if it was not seen
 abbrev pub seen_in : ℕ → List (Option Region) → Option Bool
 seen_in r regions =
     if stands_in (Numbered r) regions then Some (list_any (same_region (Numbered r)) (twice regions)) else None
@@ -125,7 +126,7 @@ pub next_seen : (rs : List (Option Region)) (i : ℕ) → 0 < i → i ≤ length
 next_seen rs i more within =
     (omega (arith, more, within), ap (λ n. drop n rs) (omega (arith, more)))
 
--- a region that was not seen does not stand there
+-- a region that was not seen does not occur there
 pub stands_from_none : (q : ℕ) (rs : List (Option Region)) → None ≡ seen_in q rs → stands_in (Numbered q) rs ≡ false
 stands_from_none q rs e = go (stands_in (Numbered q) rs) _ e
   where
@@ -141,7 +142,7 @@ stands_from_some q rs b e = go (stands_in (Numbered q) rs) _ e
     go true t e = refl
     go false t e = absurd (true≢false (ap is_some e))
 
--- what was seen twice is still that once it stands at one place more
+-- what was seen twice stays so with one place more
 pub seen_still : (f : ℕ → Option Bool) (rs : List (Option Region)) (j q r : ℕ) → j < length rs
     → get_or rs j None ≡ Some (Numbered q) → Some true ≡ f q → ((k : ℕ) → f k ≡ seen_in k (drop (j + 1) rs))
     → f r ≡ seen_in r (drop j rs)

@@ -1,4 +1,5 @@
--- What calls do to a goroutine's holder and own pages, and what they ask of them.
+-- What calls do to a goroutine's holder and own pages, and what they require of them. The holder is the record's, with slots in
+-- place of region numbers, so these are the functions of the region machine.
 use Rattle.std.specs.List.{AllByRecursion, list_any}
 use Rattle.std.specs.Prelude.{◌≡◌, ◌≢◌, ◌<◌, ◌++◌, ℕ, true, false, List, [], ◌∷◌, Option, Some, None, length, nat_eq, slice_get}
 use Rattle.rgo_core_memory.specs.Records.{Fill, page_of}
@@ -19,7 +20,7 @@ use Rattle.rgo_holding.specs.Tables.{newest_keys}
 abbrev pub KeepsHolding : Holding → Holding → Type 0
 KeepsHolding k l = (slots : ℕ) (h : Holder) (fills : List Fill) → IsHoldingOf slots k h fills → IsHoldingOf slots l h fills
 
--- each key is that of the same region, or of none
+-- Each key is that of the same region, or of none. So a caller may keep keys across such a call.
 abbrev pub SameRegions : Holding → Holding → Type 0
 SameRegions k l = (key : Key) → region_of_key l key ≡ region_of_key k key
 
@@ -51,7 +52,7 @@ creating h k p = record h {
   environments = with_top h.environments ((k, Numbered p) ∷ unbind (top_names h.environments) k);
 }
 
--- nothing is known of the slot
+-- Nothing is known of the slot. Without this a stale page or protection would be taken for the new region's.
 pub record IsNewSlot (slots : ℕ) (h : Holder) (fills : List Fill) (slot : ℕ) : Type 0 where
   pub other : slot ≢ slots
   pub unstaked : is_in slot h.stakes ≡ false
@@ -66,7 +67,7 @@ ending_stake h p = record h { stakes = without p h.stakes }
 abbrev pub IsUnboundRegion : Region → List RegionEnvironment → Type 0
 IsUnboundRegion r es = AllByRecursion (λ (e : RegionEnvironment). (k : ℕ) → bound e.names k ≢ Some r) es
 
--- it is neither named nor protected
+-- It is neither named nor protected: otherwise a key in a frame would lead to the entry of another region later.
 pub record IsUnknown (h : Holder) (slot : ℕ) : Type 0 where
   pub unnamed : IsUnboundRegion (Numbered slot) h.environments
   pub unguarded : guards h.base h.environments (Numbered slot) ≡ false
@@ -80,7 +81,7 @@ sharing_stake h p = record h { pending = p ∷ h.pending }
 abbrev pub IsSpareKey : List Entry → Key → Type 0
 IsSpareKey entries key = (e : Entry) × (slice_get entries key.0 ≡ Some e) × (e.used ≡ false)
 
--- there is a key for it, and a place for its name
+-- There is a key for it, and a place for its name: so a creation needs no memory.
 pub record HoldingHasRoom (k : Holding) (name : ℕ) : Type 0 where
   pub key : Key
   pub next : k.next ≡ Some key
@@ -89,7 +90,8 @@ pub record HoldingHasRoom (k : Holding) (name : ℕ) : Type 0 where
 
 -- ---- the base
 
--- the first region that is protected since the start, and the holder without it
+-- The first region that is protected since the start, and the holder without it. The first one, in the order in which the machine's
+-- duties end them.
 abbrev pub HoldingEndsBase : Holding → Holding → Option Key → Type 0
 HoldingEndsBase k l None = (slots : ℕ) (h : Holder) (fills : List Fill) → IsHoldingOf slots k h fills
     → (h.base ≡ []) × IsHoldingOf slots l h fills
@@ -109,7 +111,8 @@ pub record KnowsNone (e : RegionEnvironment) : Type 0 where
   pub names : e.names ≡ []
   pub protections : e.protections ≡ []
 
--- The oldest `kept` environments are as they were. Those that were above them protected nothing; those above them now know no region.
+-- The oldest `kept` environments are as they were. Those that were above them protected nothing; those above them now know no region. This
+-- is what the loop guarantees: it stops before any call that passes regions, and before any return with duties that are not local.
 pub record EnvironmentsSettle (kept depth : ℕ) (before after : List RegionEnvironment) : Type 0 where
   pub above : List RegionEnvironment
   pub fresh : List RegionEnvironment

@@ -1,4 +1,4 @@
--- Single entries.
+-- Single entries, and what reading one by its key returns.
 use Rattle.std.specs.Prelude.{ℕ, Bool, true, false, not, List, Option, Some, None, slice_get}
 use Rattle.rgo_holding.specs.declared.entries.Entry.{Entry}
 use Rattle.rgo_holding.specs.declared.keys.Key.{Key as KeyRecord}

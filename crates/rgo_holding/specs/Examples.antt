@@ -1,4 +1,4 @@
--- Where the definitions hold and where they do not.
+-- Where the definitions hold and where they do not, on one goroutine with two frames that knows two regions.
 use Rattle.std.specs.Option.{option_map}
 use Rattle.std.specs.Prelude.{◌≡◌, ℕ, false, List, [], ◌∷◌, Option, Some, None}
 use Rattle.rgo_core_memory.specs.Records.{Fill, page_of}
@@ -91,7 +91,7 @@ pub record HoldingExamples : Type 0 where
   pub pending : AreStakesPending (entry_of three_entries) 4 1 (2 ∷ []) → ⊥
   pub staked : AreKeysStaked (entry_of three_entries) 4 (2 ∷ [])
   pub no_stake : AreKeysStaked (entry_of three_entries) 4 (3 ∷ []) → ⊥
-  -- it says how many frames there are
+  -- a holding determines the number of frames
   pub as_many : (k : Holding) → HoldingShows 4 k (bare_environment ∷ []) [] [] [] [] → HoldingShows 4 k (bare_environment ∷ bare_environment ∷ []) [] [] [] [] → ⊥
   -- changes
   pub last : IsProtectedLast (holder_of (naming ∷ bare_environment ∷ [])) (Numbered 2)

@@ -1,4 +1,5 @@
--- The regions that a goroutine knows, each by its key: its slot, the goroutine's own page there, and how often it is protected.
+-- The regions that a goroutine knows, each by its key: its slot, the goroutine's own page there, and how often it is protected. The
+-- definitions are about any function from keys to entries, since an entry that is not in use counts as none.
 use Rattle.std.specs.List.{list_any}
 use Rattle.std.specs.Option.{option_map}
 use Rattle.std.specs.Prelude.{◌≡◌, ◌≢◌, ◌<◌, ◌≤◌, ◌+◌, ℕ, true, List, [], ◌∷◌, Option, Some, None, if◌then◌else◌, nat_eq, slice_get}
@@ -55,7 +56,7 @@ module _ (entry : Key → Option Entry) where
   abbrev pub slot_in : Key → Option ℕ
   slot_in key = option_map (λ (e : Entry). e.slot) (entry key)
 
-  -- no two keys have one slot, and Global has its own key
+  -- No two keys have the same slot, and Global has its own key. So a change of one entry is a change of one region.
   pub record KeySlotsDiffer (slots : ℕ) : Type 0 where
     pub unique : (a b : Key) (s : ℕ) → slot_in a ≡ Some s → slot_in b ≡ Some s → a ≡ b
     pub global : slot_in global_key ≡ Some slots
@@ -67,7 +68,8 @@ module _ (entry : Key → Option Entry) where
   abbrev pub HavePages : List Fill → Type 0
   HavePages fills = (a : Key) (e : Entry) → entry a ≡ Some e → option_map (own_page e.slot) e.page ≡ page_of e.slot fills
 
-  -- A stake is pending if it was taken in this round. A round ends when a goroutine is started.
+  -- A stake is pending if it was taken in this round. A round ends when a goroutine is started. `rounds` excludes that an entry has a
+  -- number of a later round, which would become pending by itself.
   pub record AreStakesPending (slots round : ℕ) (pending : List ℕ) : Type 0 where
     pub shared : (a : Key) (e : Entry) → entry a ≡ Some e → e.slot ≢ slots
         → nat_eq e.shared round ≡ list_any (nat_eq e.slot) pending

@@ -1,4 +1,5 @@
--- How a goroutine that is about to start comes to know the regions that it is given.
+-- How a goroutine that is about to start comes to know the regions that it is given. The loop over them keeps `Tracks`, from which it
+-- follows that a region given twice gets one key.
 use Rattle.std.specs.List.{AllByRecursion}
 use Rattle.std.specs.Option.{option_map}
 use Rattle.std.specs.Prelude.{◌≡◌, ◌≢◌, ◌⊎◌, ℕ, true, List, [], ◌∷◌, Option, Some, None, map}
@@ -17,7 +18,7 @@ pub record Tracks (k : Holding) (known : ℕ → Option Key) : Type 0 where
   pub keys : (s : ℕ) (a : Key) → known s ≡ Some a → slot_in (entry_at k) a ≡ Some s
   pub entries : (a : Key) (x : Entry) → entry_at k a ≡ Some x → (x.slot ≡ k.slots) ⊎ (known x.slot ≡ Some a)
 
--- each key that was in use is of the same region
+-- each key that was in use is still that of the same region
 abbrev pub StillOf : Holding → Holding → Type 0
 StillOf k l = (key : Key) (r : Region) → region_of_key k key ≡ Some r → region_of_key l key ≡ Some r
 
@@ -25,11 +26,11 @@ StillOf k l = (key : Key) (r : Region) → region_of_key k key ≡ Some r → re
 abbrev pub SlotsKnown : (slots : ℕ) → (known : ℕ → Option Key) → List ℕ → Type 0
 SlotsKnown slots known ps = AllByRecursion (λ p. (p ≢ slots) × (known p ≢ None)) ps
 
--- before it has run, a goroutine has one frame without names
+-- Before it has run, a goroutine has one frame without names. Its class of result does not matter, so this holds for any such frame.
 abbrev pub ShowsFresh : (slots : ℕ) → Holding → (base : List Region) → (stakes : List ℕ) → Type 0
 ShowsFresh slots k base stakes = (e : RegionEnvironment) → e.names ≡ [] → e.protections ≡ [] → HoldingShows slots k (e ∷ []) base [] stakes []
 
--- the goroutine may be given this: it has a stake in it, or it is Global or nothing
+-- the goroutine may be given this: it has a stake in it, or it is Global, or no region at all
 abbrev pub MayBeGiven : (slots : ℕ) → (stakes : List ℕ) → Option Region → Type 0
 MayBeGiven slots stakes None = Unit {0}
 MayBeGiven slots stakes (Some GlobalRegion) = Unit {0}

@@ -1,10 +1,11 @@
--- What operations do to the names of frames.
+-- What operations do to the names of frames. They are equations on the list of frames with a table. Frames without one are in the
+-- depth alone.
 use Rattle.std.specs.Prelude.{◌≡◌, ◌<◌, ◌≤◌, ◌-◌, ◌+◌, ◌^◌, ℕ, Bool, false, List, [], ◌∷◌, Option, Some, None, if◌then◌else◌, nat_eq, nat_lt, reverse, slice_set, vec_capacity, vec_len}
 use Rattle.rgo_holding.specs.declared.frames.Frames.{Frames}
 use Rattle.rgo_holding.specs.declared.frames.Table.{Table}
 use Rattle.rgo_holding.specs.Tables.{IsOrdered, Keys, Named, key_in, named_frames, named_below, newest_keys}
 
--- where the keys of the frame of this height begin, if the first table is its
+-- where the keys of the frame of this height begin, if the first table belongs to it
 abbrev pub start_at : List Table → ℕ → Option ℕ
 start_at [] n = None
 start_at (t ∷ ts) n = if nat_eq t.height n then Some t.start else None
@@ -12,7 +13,7 @@ start_at (t ∷ ts) n = if nat_eq t.height n then Some t.start else None
 abbrev pub newest_start : Frames → Option ℕ
 newest_start f = start_at (reverse f.tables.items) f.depth
 
--- nothing has changed but memory
+-- only memory has changed
 pub record SameTables (f g : Frames) : Type 0 where
   pub tables : g.tables.items ≡ f.tables.items
   pub keys : g.keys.items ≡ f.keys.items
@@ -25,18 +26,18 @@ pub record SameNames (f g : Frames) : Type 0 where
   pub depth : g.depth ≡ f.depth
   pub ordered : IsOrdered g
 
--- the frame of this height has other keys, if it is the newest that has a table
+-- The frame of this height has other keys, if it is the newest that has a table. A frame without a table has no keys to change.
 abbrev pub keys_changed_at : (height : ℕ) → (Keys → Keys) → List Named → List Named
 keys_changed_at n change [] = []
 keys_changed_at n change (f ∷ fs) = (if nat_eq f.height n then record f { keys = change f.keys } else f) ∷ fs
 
--- there is memory for a frame with this many names
+-- There is memory for a frame with this many names: a table and the keys. `enter` relies on it.
 pub record HasFrameRoom (f : Frames) (names : ℕ) : Type 0 where
   pub table : vec_len f.tables < vec_capacity f.tables
   pub keys : vec_len f.keys + names ≤ vec_capacity f.keys
   pub depth : f.depth + 1 < 2 ^ 64
 
--- there is as much memory as there was
+-- there is at least as much memory as before
 abbrev pub KeepsRoom : Frames → Frames → Type 0
 KeepsRoom f g = (n : ℕ) → HasFrameRoom f n → HasFrameRoom g n
 
@@ -51,7 +52,7 @@ abbrev pub cleared_keys : Keys → List ℕ → Keys
 cleared_keys keys [] = keys
 cleared_keys keys (k ∷ ks) = cleared_keys (slice_set keys k None) ks
 
--- the newest table is gone
+-- the list without its newest table
 abbrev pub behind_first : List Named → List Named
 behind_first [] = []
 behind_first (f ∷ fs) = fs
@@ -77,13 +78,13 @@ pub record NamedFrameEnters (f g : Frames) (keys : Keys) : Type 0 where
   pub depth : g.depth ≡ f.depth + 1
   pub ordered : IsOrdered f → IsOrdered g
 
--- the newest frame goes
+-- the newest frame is removed
 pub record NamedFrameReturns (f g : Frames) : Type 0 where
   pub named : IsOrdered f → named_frames g ≡ named_below (named_frames f) f.depth
   pub depth : g.depth ≡ f.depth - 1
   pub ordered : IsOrdered f → IsOrdered g
 
--- the frames of a height above `kept` go
+-- the tables of frames above height `kept` are removed
 abbrev pub cut : (kept : ℕ) → List Named → List Named
 cut kept [] = []
 cut kept (f ∷ fs) = if nat_lt kept f.height then cut kept fs else f ∷ fs

@@ -1,4 +1,4 @@
--- What a call or a start passes.
+-- What a call or a start passes: first by keys, as the code goes over its lists, then by regions, as the machine does.
 use Rattle.std.specs.Prelude.{◌≡◌, ℕ, true, List, [], ◌∷◌, Option, Some, None, if◌then◌else◌, length, map, nat_eq}
 use Rattle.rgo_sound.specs.RegionMachine.Owed.{given_names, passed, passed_regions, twice}
 use Rattle.rgo_sound.specs.RegionMachine.Regions.{without_all}
@@ -23,20 +23,20 @@ class_key keys NoClass = None
 class_key keys Global = Some global_key
 class_key keys (Name k) = key_in keys k
 
--- what is here, or else there
+-- the first if there is one, otherwise the second
 abbrev pub or_else : {A : Type 0} → Option A → Option A → Option A
 or_else (Some a) other = Some a
 or_else None other = other
 
--- the key of a name where this one has the key that is passed for it, unless it had one
+-- the key of a name after this one got the key that is passed for it, unless it had one
 abbrev pub first_key : Keys → (name : ℕ) → (passed : Option Key) → (k : ℕ) → Option Key
 first_key keys name passed k = or_else (key_in keys k) (if nat_eq name k then passed else None)
 
--- the key of a name where this one has that key
+-- the key of a name after this one got that key
 abbrev pub key_with : Keys → (name : ℕ) → Key → (k : ℕ) → Option Key
 key_with keys name key k = if nat_eq name k then Some key else key_in keys k
 
--- what the names of a function have that is passed these keys
+-- the keys of a function's names when these keys are passed to it: the first of two equal names counts
 abbrev pub key_for : (formals : List Class) → (passed : List (Option Key)) → (k : ℕ) → Option Key
 key_for (Name n ∷ formals) (Some key ∷ keys) k = if nat_eq n k then Some key else key_for formals keys k
 key_for (Name n ∷ formals) (None ∷ keys) k = key_for formals keys k
@@ -56,14 +56,15 @@ calling h result formals passes protects = record h {
       (without_all (top_names h.environments) (given_names result formals passes protects));
 }
 
--- the names of a callee are known, and there is memory for them
+-- The names of a callee are known, and there is memory for them. They are those of the newest frame at this moment, so nothing may
+-- change between preparing and entering.
 pub record IsPrepared (k : Holding) (formals passes : List Class) : Type 0 where
   pub keys : (n : ℕ) → key_in k.callee.items n ≡ key_for formals (map (class_key (newest_keys k.frames)) passes) n
   pub room : HasFrameRoom k.frames (length k.callee.items)
 
 -- ---- a start
 
--- each of these regions is Global or pending
+-- Each of these regions is Global or pending: the child's stakes are the pending ones, and it must have one in all that it is given.
 abbrev pub AreRegionsPassed : (pending : List ℕ) → List (Option Region) → Type 0
 AreRegionsPassed pending [] = Unit {0}
 AreRegionsPassed pending (None ∷ given) = AreRegionsPassed pending given

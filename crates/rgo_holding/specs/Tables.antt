@@ -1,4 +1,5 @@
--- Which regions the names of a goroutine's frames are bound to, in tables that are kept only for frames that have bound a name.
+-- Which regions the names of a goroutine's frames are bound to, in tables that are kept only for frames that have bound a name. Most
+-- frames have none, so the machine's environments are compared with a shorter list.
 use Rattle.std.specs.Option.{option_map}
 use Rattle.std.specs.Prelude.{◌≡◌, ◌≤◌, ℕ, suc, List, [], ◌∷◌, Option, Some, None, drop, if◌then◌else◌, length, nat_eq, reverse, slice_get, take}
 use Rattle.rgo_sound.specs.RegionMachine.Regions.{Bindings, bound}
@@ -23,7 +24,7 @@ abbrev pub named_in : Keys → List Table → List Named
 named_in keys [] = []
 named_in keys (t ∷ ts) = record { height = t.height; keys = drop t.start keys } ∷ named_in (take t.start keys) ts
 
--- each table starts within the keys that those after it leave
+-- each table starts within the keys that the newer tables leave
 abbrev pub StartWithin : Keys → List Table → Type 0
 StartWithin keys [] = Unit {0}
 StartWithin keys (t ∷ ts) = (t.start ≤ length keys) × StartWithin (take t.start keys) ts
@@ -44,7 +45,7 @@ or_none (Some key) = key
 abbrev pub key_in : Keys → ℕ → Option Key
 key_in keys k = or_none (slice_get keys k)
 
--- the keys of the frame of this height, if it is the newest that has a table; else it has none
+-- the keys of the frame of this height if it is the newest that has a table; otherwise it has none
 abbrev pub keys_at : List Named → ℕ → Keys
 keys_at [] n = []
 keys_at (f ∷ fs) n = if nat_eq f.height n then f.keys else []
@@ -58,12 +59,12 @@ named_below (f ∷ fs) n = if nat_eq f.height n then fs else f ∷ fs
 abbrev pub newest_keys : Frames → Keys
 newest_keys f = keys_at (named_frames f) f.depth
 
--- ---- what they are bound to; `region` has the region of each key that is in use
+-- ---- what they are bound to; `region` has the region of each key that is in use, and none for other keys
 
 abbrev pub StandFor : (region : Key → Option Region) → Keys → Bindings → Type 0
 StandFor region keys names = (k : ℕ) → option_map region (key_in keys k) ≡ option_map Some (bound names k)
 
--- each frame's keys are those of the regions that its environment binds
+-- Each frame's keys are those of the regions that its environment binds. The heights tell which environments have a table.
 abbrev pub NamesStand : (region : Key → Option Region) → List Named → List RegionEnvironment → Type 0
 NamesStand region fs [] = fs ≡ []
 NamesStand region fs (e ∷ es) =

@@ -1,5 +1,5 @@
-//! Calls: which regions the names of a callee are bound to, and which names the caller gives up. What a call needs is computed and
-//! memory for it taken by `prepare_call`, before anything changes; `enter` then cannot fail.
+//! Calls: which regions the names of a callee are bound to, and which names the caller gives up. `prepare_call` computes what a call
+//! needs and takes the memory for it, before anything changes. `enter` then cannot fail, so a call is made as a whole or not at all.
 
 ghost use Rattle.std.specs.List.Sorted.{IsStrictlyIncreasing};
 ghost use Rattle.std.specs.Prelude.{◌≡◌, ℕ, [], List, OnOk, map};
@@ -45,7 +45,7 @@ fn bind(keys: &mut Vec<Option<Key>>, name: u32, key: Key) -> Result<(), AllocErr
     Ok(())
 }
 
-/// Binds a name to the key that is passed for it, if one is. The first of two equal names counts.
+/// Binds a name to the key that is passed for it, if one is. The first of two equal names counts, as in the region machine.
 ///
 /// # Errors
 ///
@@ -81,7 +81,7 @@ pub(crate) fn passed_keys(
     Ok(())
 }
 
-/// Binds the names of a called function to the keys that are passed for them.
+/// Binds the names of a called function to the keys that are passed for them. The lists are equally long in checked code.
 ///
 /// # Errors
 ///
@@ -123,7 +123,7 @@ fn same_class(a: Class, b: Class) -> bool
 }
 
 /// Takes away the names of a caller that it leaves to its callee: those that it passes, does not protect, and does not
-/// pass for the callee's result.
+/// pass for the callee's result. The callee removes these regions, so the caller must not name them any more.
 fn leave_given(
     frames: &mut Frames,
     lent: Class,
@@ -149,7 +149,8 @@ fn leave_given(
 }
 
 impl Holding {
-    /// The names of a function that is about to be called, and memory for them.
+    /// The names of a function that is about to be called, and memory for them. Nothing that the record shows has changed, so the call may
+    /// still be given up.
     ///
     /// # Errors
     ///
@@ -166,7 +167,8 @@ impl Holding {
         self.frames.reserve_frame(self.callee.len())
     }
 
-    /// A function is called. `lent` is the class of its result, whose region the caller lends.
+    /// A function is called. `lent` is the class of its result, whose region the caller lends. The names must be those of the last
+    /// `prepare_call`.
     pub fn enter(&mut self, formals: &[Class], passes: &[Class], protects: &[u32], lent: Class)
         requires prepared { spec.IsPrepared self.old formals.now passes.now }
         requires rises { IsStrictlyIncreasing protects.now }

@@ -1,5 +1,5 @@
-//! What a goroutine that is started has of regions. It is made from the holding of its parent, before the start shows at the table,
-//! and shares nothing with it.
+//! What a goroutine that is started has of regions. It is made from the holding of its parent, before the access that starts the
+//! goroutine: afterwards it exists, and memory must not run out. It shares nothing with the parent, since both may run at once.
 
 ghost use Rattle.std.specs.HashMap.{get};
 ghost use Rattle.std.specs.Option.{option_map};
@@ -27,7 +27,8 @@ use rgo_sound::tac::Class;
 use std::alloc::{AllocError, Global};
 use std::collections::HashMap;
 
-/// The keys of the regions that a goroutine has come to know, by their slots.
+/// The keys of the regions that a goroutine has come to know, by their slots. It exists during a start alone: a running goroutine goes
+/// from names to keys, and never from slots.
 type Known = HashMap<usize, Key>;
 
 /// The key of the region of a slot, if it is known.
@@ -41,7 +42,7 @@ fn key_of(known: &Known, slot: usize) -> Option<Key>
 }
 
 /// The regions that are given at two positions, each once, the last first. A goroutine protects these from its start to its end,
-/// since each of two names would otherwise end its one stake.
+/// since each of two names would otherwise end its one stake. It goes from the back because the base is kept with its first region last.
 ///
 /// # Errors
 ///
@@ -110,11 +111,12 @@ impl Holding {
         Ok(regions)
     }
 
-    /// The key of the region of a slot, which a goroutine before its start comes to know if it did not.
+    /// The key of the region of a slot, which a goroutine before its start comes to know if it did not. One key for each slot, so that
+    /// protections of one region are counted in one entry.
     ///
     /// # Errors
     ///
-    /// On allocation failure, and where keys run out.
+    /// On allocation failure, or if keys run out.
     fn learn(&mut self, known: &mut Known, slot: usize) -> Result<Key, AllocError>
         ensures tracks { OnOk result (spec.Tracks self.old (get nat_eq known.old) → spec.Tracks self.new (get nat_eq known.new)) }
         ensures shows { OnOk result ((slots : ℕ) (stakes : List ℕ) → spec.Tracks self.old (get nat_eq known.old)
@@ -139,11 +141,11 @@ impl Holding {
         Ok(key)
     }
 
-    /// The key of a region that a goroutine is given before its start.
+    /// The key of a region that a goroutine is given before its start. Global needs no entry: each goroutine has it.
     ///
     /// # Errors
     ///
-    /// On allocation failure, and where keys run out.
+    /// On allocation failure, or if keys run out.
     fn learn_given(
         &mut self,
         known: &mut Known,
@@ -172,7 +174,7 @@ impl Holding {
     ///
     /// # Errors
     ///
-    /// On allocation failure, and where keys run out.
+    /// On allocation failure, or if keys run out.
     fn learn_all(
         &mut self,
         alloc: Global,
@@ -191,7 +193,7 @@ impl Holding {
         Ok(keys)
     }
 
-    /// One more region is protected since the start, before the others.
+    /// One more region is protected since the start, before the others. The goroutine has not started, so it takes no access.
     ///
     /// # Errors
     ///
@@ -237,11 +239,12 @@ impl Holding {
         Ok(())
     }
 
-    /// The goroutine that is about to start: it is given what is passed, and the pending stakes are its own.
+    /// The goroutine that is about to start: it is given what is passed, and the pending stakes are its own. The parent is only read: if
+    /// this fails, nothing has happened.
     ///
     /// # Errors
     ///
-    /// On allocation failure, and where keys run out.
+    /// On allocation failure, or if keys run out.
     pub fn child(
         &self,
         alloc: Global,

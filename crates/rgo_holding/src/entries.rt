@@ -1,4 +1,5 @@
-//! Entries of regions that a goroutine knows.
+//! Entries of regions that a goroutine knows. Only the goroutine itself reads and writes them, so none is an atomic word: the table has
+//! what others need, its counts.
 
 ghost use Rattle.std.specs.Prelude.{◌≡◌, IfOk, slice_set};
 ghost use Rattle.rgo_holding.specs.Changes.{IsSpareKey};
@@ -8,7 +9,8 @@ ghost use Rattle.rgo_holding.specs.Known.{entry_of as entry_is};
 use crate::keys::Key;
 use std::alloc::AllocError;
 
-/// An own page of a goroutine: its number, and how many of its words are filled.
+/// An own page of a goroutine: its number, and how many of its words are filled. No other goroutine fills this page, so the number of
+/// words needs no access to the table.
 #[derive(Clone, Copy, Debug, PartialEq, Eq)]
 pub struct Page {
     pub page: u32,
@@ -20,11 +22,13 @@ pub struct Page {
 pub(crate) struct Entry {
     pub(crate) slot: u32,
     pub(crate) page: Option<Page>,
-    /// How often the goroutine protects it, in all frames and since its start.
+    /// How often the goroutine protects it, in all frames and since its start. A sum is enough: whether a stake ends depends only on
+    /// whether any protection is left.
     pub(crate) protections: u32,
-    /// Entries of regions that were left are used again.
+    /// Entries of regions that were left are used again, so the list stays as long as the regions known at one time.
     pub(crate) used: bool,
-    /// The last round in which a stake was taken for a coming child; 0 for none.
+    /// The last round in which a stake was taken for a coming child; 0 for none. So a start ends all pending stakes by a new round,
+    /// without a walk over the entries.
     pub(crate) shared: u64,
 }
 
@@ -65,7 +69,7 @@ pub(crate) fn entry_of(entries: &[Entry], key: Key) -> Option<Entry>
     }
 }
 
-/// Writes the entry of a key.
+/// Writes the entry of a key. A key without a place is none that this goroutine was given, and nothing happens.
 #[inline(always)]
 pub(crate) fn put(entries: &mut Vec<Entry>, key: Key, entry: Entry)
     ensures { entries.new.items ≡ slice_set entries.old.items key.0 entry }
@@ -101,7 +105,8 @@ fn add_spare(entries: &mut Vec<Entry>) -> Result<Key, AllocError>
     Ok(Key(place))
 }
 
-/// A key with an entry that is not in use: the last that was given up, or a new one.
+/// A key with an entry that is not in use: the last that was given up, or a new one. It stays unused until the caller writes its
+/// entry, so it may be taken long before, and left if memory runs out.
 ///
 /// # Errors
 ///
@@ -118,7 +123,8 @@ pub(crate) fn spare_key(entries: &mut Vec<Entry>, free: &mut Vec<Key>) -> Result
     add_spare(entries)
 }
 
-/// The entries as they are in the first round: no stake is taken for a child.
+/// The entries as they are in the first round: no stake is taken for a child. Needed when the number of rounds begins again, since an
+/// old number would otherwise seem to be of the new round.
 pub(crate) fn forget_rounds(entries: &mut Vec<Entry>)
     ensures { (key : spec.Key) → entry_is entries.new.items key ≡ spec.forgotten (entry_is entries.old.items key) }
 {

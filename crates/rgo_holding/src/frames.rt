@@ -1,5 +1,6 @@
-//! Which regions the names of frames are bound to. The keys of all frames are in one list, those of the newest last; a frame that
-//! has bound no name has no table, so that a call which passes no region changes only the depth.
+//! Which regions the names of frames are bound to. The keys of all frames are in one list, those of the newest last. A frame that
+//! has bound no name has no table, so a call that passes no region changes only the depth. Invariant (`IsOrdered`): tables
+//! begin in ascending order in the list of keys, so the newest frame's keys are at its end and a return cuts them off.
 
 ghost use Rattle.std.specs.Prelude.{◌≡◌, ◌<◌, [], Some, None, OnOk, OnErr, IfOk, length, slice_set};
 ghost use Rattle.rgo_holding.specs.Naming as spec;
@@ -9,7 +10,7 @@ use crate::keys::Key;
 use std::alloc::{AllocError, Global};
 
 /// The names of one frame: they begin at `start` in the list of all. `height` counts the frames from the oldest up to this
-/// one.
+/// one. By it a table is known not to be the newest frame's.
 #[derive(Clone, Copy)]
 pub(crate) struct Table {
     pub(crate) height: usize,
@@ -51,7 +52,8 @@ impl Frames {
         }
     }
 
-    /// The only frame gets these keys; it had none.
+    /// The only frame gets these keys; it had none. It is called for a goroutine before its start. The table is as long as it needs to be,
+    /// since most goroutines never need a second one.
     ///
     /// # Errors
     ///
@@ -94,7 +96,8 @@ impl Frames {
         }
     }
 
-    /// Memory for a name of the newest frame.
+    /// Memory for a name of the newest frame. Taken before the access that creates its region: afterwards the region exists, and the name
+    /// has to be bound.
     ///
     /// # Errors
     ///
@@ -177,7 +180,7 @@ impl Frames {
         }
     }
 
-    /// Memory for a new frame with `names` names.
+    /// Memory for a new frame with `names` names. Taken before the call is made, so that `enter` cannot fail.
     ///
     /// # Errors
     ///
@@ -213,7 +216,7 @@ impl Frames {
         }
     }
 
-    /// Whether the newest table is of a frame above this height.
+    /// Whether the newest table belongs to a frame above this height.
     #[inline(always)]
     fn is_above(&self, height: usize) -> bool
         ensures { result ≡ spec.is_above height (named_frames self.now) }
@@ -245,7 +248,7 @@ impl Frames {
     }
 
     /// The loop has left the frames above the oldest `kept`, and has entered others which have bound no name. There are now `depth`
-    /// frames.
+    /// frames. The loop itself touches no names, so this makes up for all its calls and returns at once.
     pub(crate) fn settle(&mut self, kept: usize, depth: usize)
         ensures { spec.Cuts self.old self.new kept depth }
     {

@@ -1,6 +1,7 @@
-//! What a goroutine has of regions.
+//! What a goroutine has of regions. It is the goroutine's own, and no other thread sees it. Where an operation stands for an access to the
+//! table (`create`, `leave`, `add_pending`, `claimed`), it is called directly after that access, which may not fail any more.
 //!
-//! The clauses speak of keys of regions that the goroutine knows, whose entries are in use. So the early returns for a key without
+//! The clauses cover keys of regions that the goroutine knows, whose entries are in use. So the early returns for a key without
 //! such an entry are never taken by a goroutine at the table.
 
 ghost use Rattle.std.specs.List.{list_any};
@@ -37,7 +38,7 @@ pub struct Holding {
     pub(crate) free: Vec<Key>,
     /// The key of the next region that is created.
     next: Option<Key>,
-    /// The regions that are protected since its start, the first of them last.
+    /// The regions that are protected since its start, the first of them last, since they end from the first one on.
     pub(crate) base: Vec<Key>,
     /// What is passed at the next call, and the names of the function that is called.
     pub(crate) passed: Vec<Option<Key>>,
@@ -50,7 +51,7 @@ pub struct Holding {
 }
 
 impl Holding {
-    /// What `main` has: one frame, which knows Global.
+    /// What `main` has: one frame, which knows Global. It holds for every holder of `main` before its first instruction.
     ///
     /// # Errors
     ///
@@ -61,7 +62,7 @@ impl Holding {
         Holding::bare(alloc, slots)
     }
 
-    /// One frame, which knows Global, whatever stakes there are.
+    /// One frame, which knows Global, whatever stakes the goroutine has. `main` and every child begin with it.
     ///
     /// # Errors
     ///
@@ -88,7 +89,8 @@ impl Holding {
         })
     }
 
-    /// The key of the region that a name of the newest frame is bound to.
+    /// The key of the region that a name of the newest frame is bound to. It is good until the stake in the region ends, also after the
+    /// name is unbound.
     #[inline(always)]
     pub fn key(&self, name: u32) -> Option<Key>
         ensures { (slots : ℕ) (h : Holder) (fills : List Fill) → IsHoldingOf slots self.now h fills
@@ -109,7 +111,7 @@ impl Holding {
         }
     }
 
-    /// The slot of a region.
+    /// The slot of a region, by which the table's words of it are found. Another region may get it after the stake has ended.
     #[inline(always)]
     pub fn slot(&self, key: Key) -> u32
         ensures any { (slots : ℕ) (h : Holder) (fills : List Fill) (r : RegionRecord) → IsHoldingOf slots self.now h fills
@@ -138,7 +140,7 @@ impl Holding {
 
     // ---- protections
 
-    /// One more protection of a region, by the newest frame.
+    /// One more protection of a region, by the newest frame. It takes no access: a protection only stops this goroutine's own removals.
     ///
     /// # Errors
     ///
@@ -174,7 +176,7 @@ impl Holding {
         put(&mut self.entries, key, entry);
     }
 
-    /// Whether a region is protected.
+    /// Whether a region is protected. If so, a removal ends no stake, and takes no access.
     pub fn guards(&self, key: Key) -> bool
         ensures { (slots : ℕ) (h : Holder) (fills : List Fill) (r : RegionRecord) → IsHoldingOf slots self.now h fills
             → region_of_key self.now key ≡ Some r → result ≡ guards_in h.base h.environments r }
@@ -185,7 +187,8 @@ impl Holding {
         }
     }
 
-    /// The first region that is protected since the start is no longer so; `None` if none is left.
+    /// The first region that is protected since the start is no longer so; `None` if none is left. Called when the last frame has returned.
+    /// Its stake ends only if `guards` is false afterwards.
     pub fn end_base(&mut self) -> Option<Key>
         ensures ends { spec.HoldingEndsBase self.old self.new result }
         ensures regions { spec.SameRegions self.old self.new }
@@ -208,7 +211,8 @@ impl Holding {
         }
     }
 
-    /// Whether the first region that is protected since the start is protected otherwise, too.
+    /// Whether the first region that is protected since the start is protected otherwise, too. By this the caller knows before `end_base`
+    /// whether an access will be needed.
     pub fn guards_beyond_base(&self, key: Key) -> bool
         ensures { (slots : ℕ) (h : Holder) (fills : List Fill) (r : RegionRecord) (rest : List RegionRecord)
             → IsHoldingOf slots self.now h fills → region_of_key self.now key ≡ Some r → h.base ≡ r ∷ rest
@@ -240,7 +244,7 @@ impl Holding {
 
     // ---- names
 
-    /// A name of the newest frame is no longer bound to a region.
+    /// A name of the newest frame is no longer bound to a region. The stake stays until `leave`.
     pub fn unbind(&mut self, name: u32)
         ensures unbinds { (slots : ℕ) (h : Holder) (fills : List Fill) → IsHoldingOf slots self.old h fills
             → IsHoldingOf slots self.new (spec.without_name h name) fills }
@@ -268,7 +272,8 @@ impl Holding {
         Ok(())
     }
 
-    /// A region was created in this slot, by a name of the newest frame.
+    /// A region was created in this slot, by a name of the newest frame. The exchange has just found the slot free, so no entry has it.
+    /// This must not fail: the region exists for all.
     pub fn create(&mut self, name: u32, slot: u32)
         requires room { spec.HoldingHasRoom self.old name }
         ensures { (slots : ℕ) (h : Holder) (fills : List Fill) → IsHoldingOf slots self.old h fills
@@ -285,7 +290,8 @@ impl Holding {
 
     // ---- stakes
 
-    /// The stake in a region has ended. The key must not be used any more: its entry may come to be that of another region.
+    /// The stake in a region has ended, by a subtraction from its count. The key must not be used any more: its entry may come to be that
+    /// of another region. No name may lead to it (`IsUnknown`).
     pub fn leave(&mut self, key: Key)
         ensures { (slots : ℕ) (h : Holder) (fills : List Fill) (p : ℕ) → IsHoldingOf slots self.old h fills
             → region_of_key self.old key ≡ Some (Numbered p) → spec.IsUnknown h p
@@ -300,7 +306,7 @@ impl Holding {
         let _ = self.free.push(key);
     }
 
-    /// Whether a stake in a region is taken for the next goroutine that is started.
+    /// Whether a stake in a region is taken for the next goroutine that is started. If so, a further share takes no access.
     pub fn is_pending(&self, key: Key) -> bool
         ensures { (slots : ℕ) (h : Holder) (fills : List Fill) (p : ℕ) → IsHoldingOf slots self.now h fills
             → region_of_key self.now key ≡ Some (Numbered p) → result ≡ list_any (nat_eq p) h.pending }
@@ -311,7 +317,7 @@ impl Holding {
         }
     }
 
-    /// A stake in a region is taken for the next goroutine that is started.
+    /// A stake in a region is taken for the next goroutine that is started, by an addition to its count.
     pub fn add_pending(&mut self, key: Key)
         ensures adds { (slots : ℕ) (h : Holder) (fills : List Fill) (p : ℕ) → IsHoldingOf slots self.old h fills
             → region_of_key self.old key ≡ Some (Numbered p) → IsHoldingOf slots self.new (spec.sharing_stake h p) fills }
@@ -324,7 +330,7 @@ impl Holding {
         put(&mut self.entries, key, entry);
     }
 
-    /// A goroutine was started: the pending stakes are its own.
+    /// A goroutine was started: the pending stakes are its own now, so they are no longer this goroutine's.
     pub fn clear_pending(&mut self)
         ensures clears { (slots : ℕ) (h : Holder) (fills : List Fill) → IsHoldingOf slots self.old h fills
             → IsHoldingOf slots self.new (record h { pending = [] }) fills }
@@ -353,7 +359,8 @@ impl Holding {
         }
     }
 
-    /// A page was claimed for a region; no word of it is filled.
+    /// A page was claimed for a region; no word of it is filled. It takes the place of the goroutine's old page there, whose rest stays
+    /// unused.
     pub fn claimed(&mut self, key: Key, page: u32)
         ensures claims { (slots : ℕ) (h : Holder) (fills : List Fill) (r : RegionRecord) → IsHoldingOf slots self.old h fills
             → region_of_key self.old key ≡ Some r → IsHoldingOf slots self.new h
@@ -367,7 +374,7 @@ impl Holding {
         put(&mut self.entries, key, entry);
     }
 
-    /// `words` words of the own page in a region are filled now.
+    /// `words` words of the own page in a region are filled now. Called after the last word of the object was stored.
     #[inline(always)]
     pub fn fill(&mut self, key: Key, words: u32)
         ensures fills { (slots : ℕ) (h : Holder) (fills : List Fill) (r : RegionRecord) → IsHoldingOf slots self.old h fills
@@ -389,7 +396,7 @@ impl Holding {
 
     // ---- returns
 
-    /// The newest function has returned. It protects nothing.
+    /// The newest function has returned. It protects nothing: its protections were ended by duties before.
     pub fn come_back(&mut self)
         ensures returns { (slots : ℕ) (h : Holder) (fills : List Fill) → IsHoldingOf slots self.old h fills
             → spec.top_protections h.environments ≡ [] → IsHoldingOf slots self.new (record h { environments = below h.environments }) fills }

@@ -1,4 +1,4 @@
-//! The region parameters of functions.
+//! The region parameters of functions, computed once for a program: each call of a function would otherwise do it again.
 
 ghost use Rattle.std.specs.Prelude.{◌≡◌, IfOk, map};
 ghost use Rattle.rgo_sound.specs.Code.Names as names;
@@ -8,7 +8,7 @@ use rgo_sound::code::Code;
 use rgo_sound::tac::Class;
 use std::alloc::{AllocError, Global};
 
-/// The region parameters of each function.
+/// The region parameters of each function, by its number.
 ///
 /// # Errors
 ///

@@ -1,4 +1,5 @@
--- Each move keeps the rule.
+-- Each move keeps the rule. A move changes one account, so the sums over all accounts change by what that account gains. The weight
+-- stays a variable throughout.
 use Rattle.std.proofs.Common.{◌≡◌, ℕ, zero, suc, ◌+◌, ◌-◌, ◌<◌, ◌≤◌, ◌≢◌, List, [], ◌∷◌, ◌++◌, length, set, refl, ap, sym, ◌∙◌, ⊎_elim, arith, append_assoc}
 use Rattle.std.proofs.lemmas.List.{append-nil}
 use mathlib.Core.Option.{some, some-injective, some-ne-none}
@@ -34,7 +35,7 @@ none_left : (f : Account → ℕ) (views : List Account) → Idle f views → to
 none_left f [] idle e = refl
 none_left f (x ∷ xs) idle e = let a : f x ≡ 0 = idle zero x refl (omega arith) in let b = none_left f xs (λ j u h. idle (suc j) u h) (omega arith) in omega arith
 
--- who has all parts has all
+-- an account with all parts has all that was put and taken, since all the others are without a part and hence empty
 lone : (f : Account → ℕ) (views : List Account) (port : ℕ) (v : Account) → Idle f views → get_elem? views port ≡ some v → total_weight (λ v. v.parts) views ≡ v.parts → total_weight f views ≡ f v
 lone f [] port v idle at e = absurd (some-ne-none v (sym at))
 lone f (x ∷ xs) zero v idle at e = let p : x.parts ≡ v.parts = ap (λ (y : Account). y.parts) (some-injective x v at) in let h : f x ≡ f v = ap f (some-injective x v at) in

@@ -1,4 +1,5 @@
--- Each step keeps the crew.
+-- Each step keeps the crew. `crew_set` carries all of them: one worker changes, and what its deque's owner loses in parts is in its
+-- permits or in hand. Giving out and taking back a permit take two such steps each, with the permit in hand between them.
 use Rattle.std.proofs.Common.{◌≡◌, ℕ, zero, suc, ◌+◌, ◌-◌, ◌<◌, ◌≤◌, ◌≢◌, ◌⊎◌, inl, inr, get_or, Option, List, [], ◌∷◌, ◌++◌, take, length, set, refl, ap, sym, subst, ◌∙◌, ⊎_elim, arith}
 use Rattle.std.proofs.lemmas.List.{length-set, nil_from_length}
 use mathlib.Core.Option.{some, some-injective, some-ne-none}
@@ -135,7 +136,7 @@ module _ {T B : Type 0} where
   FilledOrLeft n results ms = (k : ℕ) → k < n
       → Filled results k ⊎ (1 + total_weight (taken_by (only k)) ms ≤ total_weight (put_by (only k)) ms + total_weight (done_by (only k)) ms)
 
-  -- the last worker goes
+  -- The last worker is gathered and dropped: a position whose balance was its alone is filled now.
   pub filled_or_left_less : (n : ℕ) (results next : List (Option ℕ)) (ms ns : List (Worker T B)) (m : Worker T B) → ms ≡ ns ++ m ∷ []
       → m.permits.items ≡ []
       → ((k : ℕ) → Filled results k → Filled next k)
@@ -164,7 +165,7 @@ module _ {T B : Type 0} where
       no_total f [] h = refl
       no_total f (x ∷ xs) h = let a = h zero x refl in let b = no_total f xs (λ j u p. h (suc j) u p) in omega arith
 
-  -- all was put, nothing but what is done was taken since, and so nothing is lost
+  -- Everything was put, and what was taken since is what is done. So nothing is lost.
   pub none_lost_after : (n : ℕ) (xs bs cs : List (Worker T B))
       → ((k : ℕ) → k < n → 1 ≤ total_weight (put_by (only k)) xs)
       → ((w : ℕ → ℕ) → total_weight (put_by w) bs ≡ total_weight (put_by w) xs)
@@ -449,7 +450,7 @@ module _ {T B : Type 0} where
       (λ i other. let b = ap (permits_for i) len in let e = permits_for_next i (length n.permits.items) in omega arith)
       (let p : (worker_view n.own).parts ≡ (worker_view o.own).parts = ap (λ (x : TaskDeque). (worker_view x).parts) own in let b = ap (permits_for w) len in let e = permits_for_next w (length n.permits.items) in omega arith) c
 
-  -- and back in its own's view
+  -- and joined into the owner's view
   pub crew_absorb : (ths : List TaskStealer) (ms : List (Worker T B)) (d : ℕ) (q r : Worker T B) → get_elem? ms d ≡ some q
       → worker_flavor r.own ≡ worker_flavor q.own → worker_deque r.own ≡ worker_deque q.own → (worker_view r.own).parts ≡ (worker_view q.own).parts + 1 → r.permits.items ≡ q.permits.items
       → IsCrew ths (only d) ms → IsCrew ths (λ _. 0) (set ms d r)

@@ -1,4 +1,5 @@
--- The deal: how many tasks each worker was given so far, and that its deque has a slot for each.
+-- The deal: how many tasks each worker was given so far, and that its deque has a slot for each. The share of worker k below a
+-- position is a quotient, so the slots suffice by arithmetic, whichever worker has its turn.
 use Rattle.std.proofs.Common.{◌≡◌, ℕ, ◌+◌, ◌*◌, ◌/◌, ◌%◌, ◌<◌, ◌≤◌, List, length, min, set, ap, subst, ◌∙◌, arith}
 use native.Mathlib.Nat.{add-mul}
 use Rattle.std.proofs.lemmas.Grind.{div_ceil_times}
@@ -21,7 +22,7 @@ few_given count at given some_worker share =
     subst (λ q. q < at / count + 1) quotient (div_below (given * count + 0) count (at / count + 1) some_worker below) in
     omega arith
 
--- what a deque with a slot for each of its tasks has room for, with the others
+-- `workers` deques with a slot for each of their tasks have room for all tasks
 pub slots_for_all : (tasks count slots capacity : ℕ) → 0 < count → slots ≡ tasks / count + min 1 (tasks % count)
     → slots ≤ capacity → tasks ≤ capacity * count
 slots_for_all tasks count slots capacity some_worker quotient fits =
@@ -30,8 +31,8 @@ slots_for_all tasks count slots capacity some_worker quotient fits =
     let more = mul-le slots count capacity count fits (omega arith) in omega arith
 
 module _ {T B : Type 0} where
-  -- before the position `at` is dealt, the worker k of so many was given its share of the positions below, and its deque has
-  -- slots for its share of all tasks
+  -- before position `at` is dealt, worker k of `workers` was given its share of the positions below, and its deque has slots for
+  -- its share of all tasks
   pub record Dealt (tasks count at k : ℕ) (m : Worker T B) : Type 0 where
     pub share : worker_index m.own * count + k < at + count
     pub slots : tasks ≤ worker_capacity m.own * count

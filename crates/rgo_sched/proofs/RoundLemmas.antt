@@ -1,4 +1,5 @@
--- Rounds, built up turn by turn: where the tasks stay, and where they come back into their list.
+-- Rounds, built up turn by turn: one worker's tasks stay in their list, and those of several workers come back into it. Both are an
+-- induction over the tasks, with the others as before.
 use Rattle.std.proofs.Common.{◌≡◌, ℕ, zero, suc, ◌+◌, ◌<◌, ◌≤◌, Bool, false, ◌||◌, Some, List, [], ◌∷◌, ◌++◌, length, take, set, get_or, refl, sym, subst, ◌∙◌, ap, ap₂, arith}
 use Rattle.std.proofs.Math.Bool.{or-false}
 use Rattle.std.proofs.lemmas.List.Folds.{list_any-append}

@@ -1,4 +1,5 @@
--- The workers of a round, and what they have put, taken and done.
+-- The workers of a round, and what they have put, taken and done. Sums over all workers are what nobody else can change, so the
+-- proof that no task is lost is a comparison of three sums.
 use Rattle.std.specs.Prelude.{◌≡◌, ◌≢◌, ℕ, ◌+◌, ◌-◌, ◌*◌, ◌<◌, ◌≤◌, List, [], length}
 use mathlib.Core.Option.{some}
 use lib.ListN.{get_elem?}
@@ -20,15 +21,16 @@ module _ {T B : Type 0} where
   abbrev pub done_by : (ℕ → ℕ) → Worker T B → ℕ
   done_by w m = total_weight w m.done.items
 
-  -- what the worker took, of its own and by its permits, is what it has done
+  -- What the worker took, from its own deque and by its permits, is what it has done. It holds whenever the worker has no task in hand.
   pub record DoneIsTaken (m : Worker T B) : Type 0 where
     pub counted : (w : ℕ → ℕ) → taken_by w m ≡ done_by w m
 
-  -- each worker is so
+  -- it holds of each worker
   abbrev pub Every : (Worker T B → Type 0) → List (Worker T B) → Type 0
   Every P crew = (k : ℕ) (m : Worker T B) → get_elem? crew k ≡ some m → P m
 
-  -- nothing was ever put into the worker's deque, and as many such deques as there are workers have slots for all tasks
+  -- Nothing was ever put into the worker's deque, and `workers` such deques have slots for all tasks. So no push of the deal can
+  -- be refused.
   abbrev pub HasSlots : ℕ → ℕ → Worker T B → Type 0
   HasSlots tasks workers m = (worker_index m.own ≡ 0) × (tasks ≤ worker_capacity m.own * workers)
 
@@ -41,11 +43,11 @@ module _ {T B : Type 0} where
     pub room : m.permits.cap ≡ workers
     pub nothing_done : m.done.items ≡ []
 
-  -- a worker that may begin: it has a permit for each of so many deques
+  -- a worker that may begin: it has a permit for each of `workers` deques
   abbrev pub WorkerIsReady : ℕ → Worker T B → Type 0
   WorkerIsReady workers m = DoneIsTaken m × (length m.permits.items ≡ workers)
 
-  -- a worker to whose own end all parts of its deque have come back
+  -- a worker that has all parts of its deque again
   abbrev pub HasAllParts : Worker T B → Type 0
   HasAllParts m = ((worker_view m.own).parts ≡ 128) × (worker_flavor m.own ≡ 0) × (m.permits.items ≡ [])
 
@@ -57,8 +59,9 @@ module _ {T B : Type 0} where
     pub put : (worker_view n.own).put ≡ (worker_view m.own).put
     pub permits : length n.permits.items ≡ length m.permits.items
 
-  -- the workers of a round and the stealers of their deques, where `in_hand k` permits for the deque k are with no worker:
-  -- all parts of each deque are with its owner, with the permits that workers have for it, and in hand
+  -- The workers of a round and the stealers of their deques: all parts of each deque are with its owner, with the permits that
+  -- workers have for it, or in hand. `in_hand k` counts the permits for deque k that no worker has: between two statements the code holds
+  -- one that it has taken from an owner and not yet given to a worker. With at most 64 workers an owner always keeps a part.
   pub record IsCrew (stealers : List TaskStealer) (in_hand : ℕ → ℕ) (crew : List (Worker T B)) : Type 0 where
     pub same : length crew ≡ length stealers
     pub few : length stealers ≤ 64
@@ -69,7 +72,8 @@ module _ {T B : Type 0} where
     pub parts : (k : ℕ) (m : Worker T B) → get_elem? crew k ≡ some m
         → (worker_view m.own).parts + total_weight (λ (n : Worker T B). permits_for k (length n.permits.items)) crew + in_hand k ≡ 128
 
-  -- no task is lost: of each position below n more was put and done than was taken
+  -- No task is lost: of each position below n more was put and done than was taken. When no worker is left, both sums are 0, so
+  -- the position must have its task by then.
   abbrev pub NoneLost : ℕ → List (Worker T B) → Type 0
   NoneLost n crew = (k : ℕ) → k < n
       → 1 + total_weight (taken_by (only k)) crew ≤ total_weight (put_by (only k)) crew + total_weight (done_by (only k)) crew
@@ -80,7 +84,7 @@ module _ {T B : Type 0} where
     pub takes : (w : ℕ → ℕ) → total_weight (taken_by w) ns ≡ total_weight (taken_by w) ms
     pub dones : (w : ℕ → ℕ) → total_weight (done_by w) ns ≡ total_weight (done_by w) ms
 
-  -- this worker has one permit less, if it had one, and the others have theirs
+  -- This worker has one permit less, if it had one, and the others have theirs. The loop that takes permits back counts by it.
   pub record FewerPermits (worker : ℕ) (ms ns : List (Worker T B)) : Type 0 where
     pub same : length ns ≡ length ms
     pub others : (k : ℕ) (m n : Worker T B) → get_elem? ms k ≡ some m → get_elem? ns k ≡ some n → k ≢ worker

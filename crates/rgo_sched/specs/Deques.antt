@@ -1,4 +1,4 @@
--- The two ends of a deque of tasks, as contracts see them.
+-- The two ends of a deque of tasks, as contracts see them: a task in a deque is a number there, its position.
 use Rattle.std.specs.Prelude.{ℕ}
 use Rattle.std.specs.declared.alloc.Global.{Global}
 use Rattle.crossbeam_deque.specs.declared.handles.Stealer.{Stealer}

@@ -1,4 +1,5 @@
--- The permits by which a worker steals, one for each deque.
+-- The permits by which a worker steals, one for each deque. A permit has one part of its deque and puts nothing, so what it has
+-- taken is all that the owner has to learn from it.
 use Rattle.std.specs.Prelude.{◌≡◌, ℕ, zero, suc, ◌+◌, ◌≤◌, List, [], length}
 use mathlib.Core.Option.{some}
 use lib.ListN.{get_elem?}
@@ -7,7 +8,7 @@ use Rattle.rgo_sched.specs.declared.deques.Permit.{Permit}
 use Rattle.rgo_sched.specs.Accounts.{total_weight}
 use Rattle.rgo_sched.specs.Deques.{TaskStealer}
 
--- how many permits for the deque i a worker has that has the first n
+-- how many permits for deque i a worker has if it has permits for the first n deques: 1 or 0
 abbrev pub permits_for : ℕ → ℕ → ℕ
 permits_for i zero = 0
 permits_for zero (suc n) = 1
@@ -30,7 +31,8 @@ module _ {T B : Type 0} where
   abbrev pub stolen : (ℕ → ℕ) → List (Permit T B) → ℕ
   stolen w permits = total_weight (λ (p : Permit T B). total_weight w (view p.pass).taken) permits
 
-  -- what was taken by the permits from ps to qs is what was done from ds to es
+  -- What was taken by the permits from ps to qs is what was done from ds to es. The two are added crosswise, since ps may have taken and
+  -- ds may be done from before.
   pub record TakenWasDone (ps qs : List (Permit T B)) (ds es : List ℕ) : Type 0 where
     pub moved : (w : ℕ → ℕ) → stolen w qs + total_weight w ds ≡ stolen w ps + total_weight w es
     pub same : length qs ≡ length ps

@@ -1,4 +1,4 @@
--- Positions of tasks, one at a time.
+-- Positions of tasks, one at a time: a fact about all tasks is proved for each position with the weight that counts it alone.
 use Rattle.std.specs.Prelude.{◌≡◌, ℕ, zero, suc, List, Option, Some, slice_get}
 
 -- the weight that counts one position: 1 at this number, and 0 at the others

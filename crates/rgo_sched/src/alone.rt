@@ -5,7 +5,7 @@ use crate::tasks::Task;
 use rgo_outside::Gate;
 
 /// The worker arrives at the gate, and then the tasks have their turns in order. They stay where they are, since nobody else
-/// could take them: a deque and two lists would cost more than a short turn does.
+/// could take them: a deque and two lists would cost more than a short turn does. It takes no memory, so it cannot fail.
 pub fn turn_in_order<T: Task, G: Gate>(tasks: &mut [T], number: u64, gate: &G) -> bool
     ensures { RoundOf T.goes tasks.old tasks.new result }
 {

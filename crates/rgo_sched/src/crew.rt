@@ -1,4 +1,6 @@
-//! The workers of a round, made before any task moves, and the permits by which they steal from each other.
+//! The workers of a round, made before any task moves, and the permits by which they steal from each other. Invariant
+//! (`IsCrew`): the parts of each deque are with its owner, with the permits of workers for it, or in hand, 128 in all. So when all
+//! permits are back, the owner knows all that was put into its deque and taken from it.
 ghost use Rattle.std.specs.Prelude.{◌≡◌, ◌<◌, ◌≤◌, [], length, IfOk};
 ghost use Rattle.crossbeam_deque.specs.Handles.{view, IsPassOf, SameWorker, worker_deque, worker_index, worker_view};
 ghost use Rattle.rgo_sched.specs.Accounts.{joined_accounts, less_one, one_part};
@@ -11,7 +13,8 @@ use crate::tasks::Task;
 use crossbeam_deque::Pass;
 use std::alloc::{AllocError, Global};
 
-/// One worker: its deque, a permit for each deque, and what it has done.
+/// One worker: its deque, a permit for each deque, and what it has done. Only its own thread uses it during a round, so nothing
+/// but the deques is shared.
 #[derive(Drop)]
 pub struct Worker<T: Task + Drop, B: Before<T>> {
     pub own: TaskDeque<T, B>,
@@ -19,8 +22,8 @@ pub struct Worker<T: Task + Drop, B: Before<T>> {
     pub done: Vec<Done<T, B>>,
 }
 
-/// A worker with no task and no permit, but with room for them: its deque has a slot for each task that is dealt to it, and it
-/// may come to do all tasks.
+/// A worker with no task and no permit, but with room for them: its deque has a slot for each task that is dealt to it. Its list
+/// of what is done has room for all tasks, since it may steal them all and memory must not run out after a task has had its turn.
 pub fn new_worker<T: Task + Drop, B: Before<T>>(
     alloc: Global,
     tasks: usize,
@@ -36,7 +39,8 @@ pub fn new_worker<T: Task + Drop, B: Before<T>>(
     })
 }
 
-/// The workers of a round, without permits, and a stealer for the deque of each.
+/// The workers of a round, without permits, and a stealer for the deque of each. There are at most 64 workers: each deque gives out
+/// a permit for each of them, and its owner must keep some of the 128 parts.
 pub fn new_crew<T: Task + Drop, B: Before<T>>(
     alloc: Global,
     tasks: usize,
@@ -58,7 +62,8 @@ pub fn new_crew<T: Task + Drop, B: Before<T>>(
     Ok((crew, stealers))
 }
 
-/// Gives each worker a permit for each deque, its own too, so that a permit's index is the number of its deque.
+/// Gives each worker a permit for each deque, its own too, so that a permit's index is the number of its deque. That for its own is
+/// never used.
 pub fn hand_out<T: Task + Drop, B: Before<T>>(
     crew: &mut [Worker<T, B>],
     stealers: &[TaskStealer<T, B>],
@@ -77,7 +82,7 @@ pub fn hand_out<T: Task + Drop, B: Before<T>>(
     }
 }
 
-/// A new pass with one part of the owner's.
+/// A new pass with one part of the owner's. The owner must keep one: without a part it could not put or take.
 fn cut<T: Task + Drop, B: Before<T>>(own: &mut TaskDeque<T, B>) -> Pass<Queued<T, B>, Account>
     requires { 1 < (worker_view own.old).parts }
     ensures views { (worker_view own.new ≡ less_one (worker_view own.old)) × (view result ≡ one_part) }
@@ -100,7 +105,8 @@ fn absorb<T: Task + Drop, B: Before<T>>(
     own.absorb::<Part>(pass);
 }
 
-/// Joins the last permit of a worker into what the owner of its deque knows, if the worker has one.
+/// Joins the last permit of a worker into what the owner of its deque knows, if the worker has one. The last one, since then those
+/// before it stay at the index of their deque.
 fn take_one<T: Task + Drop, B: Before<T>>(
     crew: &mut [Worker<T, B>],
     stealers: &[TaskStealer<T, B>],
@@ -119,7 +125,8 @@ fn take_one<T: Task + Drop, B: Before<T>>(
     absorb(&mut crew[deque].own, permit.pass);
 }
 
-/// Joins all permits into what the owners of their deques know.
+/// Joins all permits into what the owners of their deques know. Only after this can an owner see that its deque is empty for good:
+/// before, another worker may have taken a task that the owner's account does not have.
 pub fn take_back<T: Task + Drop, B: Before<T>>(
     crew: &mut [Worker<T, B>],
     stealers: &[TaskStealer<T, B>],

@@ -1,4 +1,5 @@
-//! The tasks go to the workers, and come back into their list.
+//! The tasks go to the workers, and come back into their list. Both run on the caller's thread: before the workers start, and after
+//! they have all ended.
 ghost use Rattle.std.specs.Prelude.{◌≡◌, ℕ, ◌+◌, ◌<◌, ◌≤◌, [], ◌∷◌, length, vec_capacity};
 ghost use Rattle.crossbeam_deque.specs.Handles.{SameWorker, worker_capacity, worker_index, worker_view};
 ghost use Rattle.rgo_sched.specs.Accounts.{Put, total_weight};
@@ -11,7 +12,7 @@ use crate::deques::{Puts, TaskDeque, TaskStealer};
 use crate::queued::{Before, Done, Queued};
 use crate::tasks::Task;
 
-/// Puts a task into a deque of which there is a slot that was never used, so that no push can be refused.
+/// Puts a task into a deque that has a slot that was never used, so the push cannot be refused.
 fn give<T: Task + Drop, B: Before<T>>(own: &mut TaskDeque<T, B>, queued: Queued<T, B>)
     requires part { 0 < (worker_view own.old).parts }
     requires slots { worker_index own.old < worker_capacity own.old }
@@ -24,7 +25,8 @@ fn give<T: Task + Drop, B: Before<T>>(own: &mut TaskDeque<T, B>, queued: Queued<
     }
 }
 
-/// The task at position k goes to the worker k modulo the number of workers, in ascending order.
+/// The task at position k goes to worker k modulo the number of workers, in ascending order. The list is reversed first, because
+/// only its end can be taken without moving the rest. It keeps its memory, into which the tasks come back.
 pub fn deal<T: Task + Drop, B: Before<T>>(
     tasks: &mut Vec<T>,
     crew: &mut [Worker<T, B>],
@@ -51,7 +53,7 @@ pub fn deal<T: Task + Drop, B: Before<T>>(
     }
 }
 
-/// The tasks after their turns, in order, and whether any went on.
+/// The tasks after their turns, in order, and whether any went on. Each place is filled (`all`), so its `None` cannot occur.
 pub fn give_back<T: Task + Drop, B: Before<T>>(
     results: &mut [Option<Done<T, B>>],
     tasks: &mut Vec<T>,

@@ -1,4 +1,5 @@
-//! The deques: the rule that they keep, and how a worker takes a task from its own or steals one and turns it.
+//! The deques: the rule that they keep, and how a worker takes a task from its own or steals one and turns it. The owner and all
+//! others take at the same end, first in, first out, so tasks of one deque begin in the order in which they were dealt.
 ghost use Rattle.std.specs.Prelude.{◌≡◌, ℕ, ◌+◌, ◌<◌, ◌≤◌, IsTrue, length, vec_len};
 ghost use Rattle.crossbeam_deque.specs.Handles.{view, IsPassOf, SamePass, SameWorker, stealer_deque, worker_view, worker_flavor};
 ghost use Rattle.rgo_sched.specs.Accounts.{Balanced, Put, Took, TookInto, all_parts, joined_accounts, less_one, no_part, one_part, total_weight};
@@ -10,7 +11,7 @@ use crossbeam_deque::protocol::{Join, Outcome, Protocol, Split};
 use crossbeam_deque::{Pass, Steal, Stealer, Worker};
 use std::alloc::Global;
 
-/// The rule: what was put was taken or is in the deque.
+/// The rule: what was put was taken or is in the deque. It holds after every access, whichever threads are at the deque.
 pub struct Balance;
 
 impl<T: Task + Drop, B: Before<T>> Protocol<Queued<T, B>, Account> for Balance {
@@ -28,15 +29,15 @@ impl<T: Task + Drop, B: Before<T>> Outcome<Queued<T, B>, Account> for Puts {
     ghost then = { Put };
 }
 
-/// One task is taken, while others may take some, too.
+/// One task is taken, while others may take some, too. So an empty deque shows nothing about what was taken.
 pub struct Takes;
 
 impl<T: Task + Drop, B: Before<T>> Outcome<Queued<T, B>, Account> for Takes {
     ghost then = { Took };
 }
 
-/// One task is taken where nobody else has a part: then no more is ever taken than was put, and all of it once the deque is
-/// empty.
+/// One task is taken while no other pass has a part: all that was taken is then in this account. It is never more than was put, so a
+/// loop that takes ends, and it is all that was put once the deque is empty.
 pub struct TakesAlone;
 
 impl<T: Task + Drop, B: Before<T>> Outcome<Queued<T, B>, Account> for TakesAlone {
@@ -74,7 +75,8 @@ pub struct Permit<T: Task + Drop, B: Before<T>> {
     pub deque: usize,
 }
 
-/// Takes one task of its own, turns it, and returns whether there was one.
+/// Takes one task of its own, turns it, and returns whether there was one. It may only be called by the worker itself. `false`: at
+/// that moment its deque was empty, and it stays so, since no task is added while the workers run.
 pub fn turn_own<T: Task + Drop, B: Before<T>>(
     own: &mut TaskDeque<T, B>,
     done: &mut Vec<Done<T, B>>,
@@ -95,8 +97,9 @@ pub fn turn_own<T: Task + Drop, B: Before<T>>(
     }
 }
 
-/// Steals one task, turns it, and returns whether it got one. Where another worker was faster it got none: it asks each of the
-/// others before it comes back.
+/// Steals one task, turns it, and returns whether it got one. Any worker may call it. If another worker was faster it returns
+/// `false`, as for an empty deque, and does not try again: such a loop would end only by fairness. A task that is missed in this
+/// way is taken by the worker in whose deque it is.
 pub fn turn_stolen<T: Task + Drop, B: Before<T>>(
     stealer: &TaskStealer<T, B>,
     permit: &mut Permit<T, B>,

@@ -1,4 +1,5 @@
-//! What the workers have done, position by position.
+//! What the workers have done, position by position. All of this is on the caller's thread, after the workers have ended. A place for
+//! each position takes the place of a sort, and shows without a proof about permutations that each task is there once.
 ghost use Rattle.std.specs.Prelude.{◌≡◌, ℕ, ◌+◌, ◌<◌, ◌⊎◌, length, IfOk};
 ghost use Rattle.crossbeam_deque.specs.Handles.{worker_view, worker_flavor};
 ghost use Rattle.rgo_sched.specs.Accounts.{total_weight};
@@ -25,7 +26,7 @@ pub fn empty_results<T: Task + Drop, B: Before<T>>(
     Ok(results)
 }
 
-/// Puts a task at its position.
+/// Puts a task at its position. If the place were taken, the older task would be dropped: the rule of the deques excludes it.
 pub fn store<T: Task + Drop, B: Before<T>>(results: &mut [Option<Done<T, B>>], done: Done<T, B>)
     requires { length results.old ≡ length B.tasks }
     ensures here { Filled results.new done }
@@ -36,7 +37,8 @@ pub fn store<T: Task + Drop, B: Before<T>>(results: &mut [Option<Done<T, B>>], d
     results[at] = Some(done);
 }
 
-/// Turns what is left in a deque. After a whole round nothing is: its worker has seen it empty, or was dealt nothing.
+/// Turns what is left in a deque. After a round nothing is left: its worker has seen it empty, or was dealt nothing. It is here
+/// because what a worker has seen is not in its contract. So that no task is lost follows without it.
 fn drain<T: Task + Drop, B: Before<T>>(
     own: &mut TaskDeque<T, B>,
     results: &mut [Option<Done<T, B>>],
@@ -54,7 +56,8 @@ fn drain<T: Task + Drop, B: Before<T>>(
     }
 }
 
-/// Stores what one worker has done, and what its deque still holds.
+/// Stores what one worker has done, and what its deque still holds. A position that this leaves empty was put here no more often
+/// than it was taken, so another worker has it.
 fn gather<T: Task + Drop, B: Before<T>>(
     mut worker: Worker<T, B>,
     results: &mut [Option<Done<T, B>>],

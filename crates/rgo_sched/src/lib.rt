@@ -1,4 +1,5 @@
-//! Rounds: each task has one turn, on worker threads that steal from each other.
+//! Rounds: each task has one turn, on worker threads that steal from each other. A turn may be long, and with fixed shares it would
+//! hold up the tasks after it while other workers have nothing to do.
 #![tactic(auto)]
 
 mod accounts;

@@ -1,10 +1,11 @@
-//! A task on its way through a round on several workers.
+//! A task on its way through a round on several workers. Contracts count positions in place of tasks: two tasks may be equal, but
+//! their positions differ.
 ghost use Rattle.std.specs.Prelude.{◌≡◌, ◌<◌, ℕ, Some, slice_get, List, [], length};
 
 use crate::tasks::Task;
 use std::marker::{Brand, Model, PhantomData};
 
-/// The tasks as they were before the round, as contracts know them. Each round picks its own.
+/// The tasks as they were before the round, as contracts know them. Each round picks its own, so `Brand` has a placeholder.
 pub trait Before<T> {
     ghost tasks: { List T };
 }
@@ -13,7 +14,7 @@ impl<T> Before<T> for Brand {
     ghost tasks = { [] };
 }
 
-/// A task before its turn, with its position. Contracts see the position alone: the invariant says which task it is, so who
+/// A task before its turn, with its position. Contracts see the position alone. The invariant states which task it is, so code that
 /// hands on each position once hands on each task once.
 #[derive(Drop)]
 pub struct Queued<T: Task + Drop, B: Before<T>> {
@@ -60,7 +61,7 @@ impl<T: Task + Drop, B: Before<T>> Queued<T, B> {
         }
     }
 
-    /// The one turn.
+    /// The one turn. It takes the task by value, so no task can have a second one.
     pub fn turn(self) -> Done<T, B>
         ensures { result ≡ self }
     {

@@ -21,10 +21,10 @@ use std::thread::Threads;
 /// The task at position k is dealt to worker k modulo `workers`. Each worker that was dealt one arrives at the gate, in round
 /// `number`, before its first turn. It turns its own tasks in ascending order, and then steals: it asks each other worker once,
 /// in ascending order, and begins anew until no worker has a task for it. A worker that was dealt nothing steals, too. The
-/// workers run at once, one of them in the caller's thread and each other one in a thread of its own; where the system makes
+/// workers run at once, one of them in the caller's thread and each other one in a thread of its own; if the system makes
 /// no thread, they run one after the other.
 ///
-/// If memory is refused, that is before any turn, and the tasks are as they were. One worker takes no memory.
+/// If an allocation fails, it does so before any turn, and the tasks are as they were. One worker takes no memory.
 pub fn round<R: Threads + Sync, T: Task + Drop + Send, G: Gate + Sync>(
     rt: &R,
     tasks: &mut Vec<T>,
@@ -46,7 +46,7 @@ pub fn round<R: Threads + Sync, T: Task + Drop + Send, G: Gate + Sync>(
 }
 
 /// The round of several workers, of tasks that contracts know as `B.tasks`. All memory is taken first, while the tasks are still
-/// in their list.
+/// in their list: a task that has had its turn could not be put back as it was.
 fn round_of<R: Threads + Sync, T: Task + Drop + Send, G: Gate + Sync, B: Before<T> + Send + Sync>(
     rt: &R,
     tasks: &mut Vec<T>,
@@ -74,7 +74,7 @@ fn round_of<R: Threads + Sync, T: Task + Drop + Send, G: Gate + Sync, B: Before<
     ))
 }
 
-/// The round once its memory is there.
+/// The round after its memory was allocated. Nothing in it can fail.
 fn turn_all<R: Threads + Sync, T: Task + Drop + Send, G: Gate + Sync, B: Before<T> + Send + Sync>(
     rt: &R,
     tasks: &mut Vec<T>,
@@ -97,7 +97,8 @@ fn turn_all<R: Threads + Sync, T: Task + Drop + Send, G: Gate + Sync, B: Before<
     give_back(results, tasks)
 }
 
-/// Deals the tasks, lets the workers work, and joins what they know.
+/// Deals the tasks, lets the workers work, and joins what they know. The order is forced: permits come before tasks, since a worker
+/// may steal as soon as it runs, and they come back after all workers have ended.
 fn play<R: Threads + Sync, T: Task + Drop + Send, G: Gate + Sync, B: Before<T> + Send + Sync>(
     rt: &R,
     tasks: &mut Vec<T>,

@@ -1,4 +1,5 @@
-//! The workers at their work.
+//! The workers at their work, each in its own thread. Loops are bounded by the room in `done`, which is all tasks of the round: so
+//! each ends without a proof about the other threads.
 ghost use Rattle.std.specs.Prelude.{◌≡◌, ℕ, ◌<◌, length};
 ghost use Rattle.crossbeam_deque.specs.Handles.{view, SameWorker, worker_view, worker_flavor};
 ghost use Rattle.rgo_sched.specs.Accounts.{TookInto, total_weight};
@@ -13,8 +14,8 @@ use rgo_outside::Gate;
 use std::thread;
 use std::thread::Threads;
 
-/// Turns the worker's own tasks until there is none. A worker has room for all tasks of the round, so it never stops for want
-/// of room.
+/// Turns the worker's own tasks until its deque is empty. A worker has room for all tasks of the round, so it never stops because
+/// room is missing.
 fn work_own<T: Task + Drop, B: Before<T>>(own: &mut TaskDeque<T, B>, done: &mut Vec<Done<T, B>>)
     requires part { 0 < (worker_view own.old).parts }
     requires fifo { worker_flavor own.old ≡ 0 }
@@ -29,7 +30,8 @@ fn work_own<T: Task + Drop, B: Before<T>>(own: &mut TaskDeque<T, B>, done: &mut 
     }
 }
 
-/// Asks another worker's deque for a task and turns it, and returns whether it got one.
+/// Asks another worker's deque for a task and turns it, and returns whether it got one. A worker does not ask itself: its own deque
+/// was empty, and nothing is added. It is a function of its own so that each branch has a goal of its own.
 fn ask<T: Task + Drop, B: Before<T>>(
     stealer: &TaskStealer<T, B>,
     permit: &mut Permit<T, B>,
@@ -65,7 +67,8 @@ fn sweep<T: Task + Drop, B: Before<T>>(
     got
 }
 
-/// Sweeps over the others until a sweep gets nothing. Each other one gets a task at least, so there are no more than tasks.
+/// Sweeps over the others until a sweep gets nothing. Each other sweep gets at least one task, so there are at most as many as
+/// tasks. A worker that ends has nothing left to do: no task is added, and a task that it missed is taken by its owner.
 fn steal<T: Task + Drop, B: Before<T>>(
     permits: &mut [Permit<T, B>],
     done: &mut Vec<Done<T, B>>,
@@ -85,7 +88,8 @@ fn steal<T: Task + Drop, B: Before<T>>(
     }
 }
 
-/// A worker that was dealt a task arrives at the gate, and then turns its own tasks.
+/// A worker that was dealt a task arrives at the gate, and then turns its own tasks. One without a task does not arrive, so the same
+/// workers arrive in each run and a test can wait for them.
 fn begin<T: Task + Drop, B: Before<T>, G: Gate>(
     own: &mut TaskDeque<T, B>,
     done: &mut Vec<Done<T, B>>,
@@ -141,7 +145,7 @@ fn work<T: Task + Drop, B: Before<T>, G: Gate>(
     );
 }
 
-/// All workers at once, each in a thread of its own; where the system makes no thread, they work one after the other.
+/// All workers at once, each in a thread of its own; if the system makes no thread, they work one after the other.
 pub fn work_all<
     T: Task + Drop + Send,
     B: Before<T> + Send + Sync,

@@ -1,4 +1,4 @@
--- The examples.
+-- The examples, by computation of two local steps.
 use Rattle.std.proofs.Common.{◌≡◌, ◌∙◌, ℕ, zero, suc, [], ◌∷◌, Some, None, ap, arith, refl, sym}
 use Rattle.rgo_sound.specs.Machine.Limits.{deepest}
 use Rattle.rgo_sound.specs.Machine.declared.limits.Limits.{Limits}

@@ -1,4 +1,6 @@
--- Loads and stores.
+-- Loads and stores. All have the same shape: the operands by their types, the step by the law of frames, the words by the law of memory,
+-- and the channels left, since the word is none of theirs. The order breaks a circle: the word that is read is known from the state
+-- before the step, and only then the step from the word.
 use Rattle.std.proofs.Common.{◌≡◌, ◌≢◌, inl, ⊎_elim, ℕ, suc, ◌+◌, ◌<◌, ◌≤◌, pos, List, [], ◌∷◌, Option, Some, None, length, map, max, slice_get, slice_set, slice_index, refl, ap, sym, subst, ◌∙◌, arith, false, Contains}
 use Rattle.std.proofs.Math.ListN.{length-set}
 use Rattle.std.proofs.lemmas.List.{get_or-set_other}
@@ -124,7 +126,7 @@ module _ {T : Setup} {g : ℕ} {c : Record} (x : Situation T g c) (rests : c.sid
       (after_action T.code c.frame a.w a.ws a.instr (Some d) (slice_index x.words i)) read_step x.words
       (λ o k is. is) (λ o k is. is) refl (λ o j k on l. refl)) (λ r. refl) (λ o i object r stands low fixed. refl)))
 
-  -- and points where it may
+  -- and points into the pages
   pub read_points : LeadsToLive x.s v → Points T (target_type T a.w (Some d)) (slice_index x.words i)
   read_points live = gives_points x (Some d) act from removes a x.s.plain.memory v does x.words (map memory_of x.recs) x.s (I x).places (I x).memory
       (I x).addresses (I x).addressed refl (slice_index x.words i) live shows
@@ -167,7 +169,7 @@ module _ {T : Setup} {g : ℕ} {c : Record} (x : Situation T g c) (to : Option �
       let l = whole.fits in
       whole_of T.sizes.page_words (StructObject cells) (omega (arith, many, l, some))
 
--- a field is that many words after the first
+-- field k is k words after the first one
 fields_first : (cells : List Value) (k : ℕ) → k < length cells → k ≡ words_before (StructObject cells) + k
 fields_first cells k low = omega (arith, low)
 
@@ -381,7 +383,7 @@ module _ {T : Setup} {g : ℕ} {c : Record} (x : Situation T g c) (rests : c.sid
       (read_step x rests d (action.Get k) [] removes a (variable_at (layout T) k) variable_there.0 get_does get_shows).steps
       (operands.before x (Some d) (action.Get k) [] removes a [] refl)).1
 
-  -- what a package variable holds is Global
+  -- a package variable holds objects of Global
   pub get_points : Points T (target_type T a.w (Some d)) (slice_index x.words (variable_at (layout T) k))
   get_points = read_points x rests d (action.Get k) [] removes a (variable_at (layout T) k) variable_there.0 get_does get_shows (λ o e. (
     GlobalRegion,

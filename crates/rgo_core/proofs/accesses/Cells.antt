@@ -1,4 +1,5 @@
 -- The spread struct or slice whose cell a record's next instruction accesses: where its page numbers are, and where a page number leads.
+-- That it is one object follows from its address, since its region is live.
 use Rattle.std.proofs.Common.{◌≡◌, ℕ, suc, ◌+◌, ◌-◌, ◌/◌, ◌%◌, ◌<◌, ◌≤◌, nat_lt, true, List, [], ◌∷◌, Option, Some, length, map, slice_get, slice_index, refl, ap, sym, subst, ◌∙◌, arith}
 use Rattle.std.proofs.lemmas.Bool.Decides.{nat_tests}
 use Rattle.std.proofs.lemmas.Option.{same_Some}
@@ -54,7 +55,7 @@ first_has f p others (t ∷ rest) ty h has =
 
 -- ---- a spread object at this address, with this cell
 
--- so many words are before its cells
+-- `before` words are before its cells
 pub record HasCell {T : Setup} {g : ℕ} {c : Record} (x : Situation T g c) (at cell before : ℕ) : Type 0 where
   pub object : ℕ
   pub other : Object
@@ -138,7 +139,7 @@ module _ {T : Setup} {g : ℕ} {c : Record} (x : Situation T g c) (at cell befor
       (word_inside (layout T) x.words (map memory_of x.recs) (ground_of x.s) (I x).places (I x).memory h.object (before + cell) h.other h.region
       h.stands m)
 
-  -- there is no other object at the address
+  -- no other object is at the address
   pub one_there : (o : ℕ) (object : Object) (r : Region) → IsLiveObject x.s.plain.memory.heap x.s.owners x.s.regions o object r
       → at ≡ address (layout T) (I x).places.start o → (h.object ≡ o) × (h.other ≡ object)
   one_there o object r stands begins =
@@ -146,7 +147,7 @@ module _ {T : Setup} {g : ℕ} {c : Record} (x : Situation T g c) (at cell befor
       object h.region r h.stands stands (sym h.begins ∙ begins) in
       (same, same_Some h.other object (sym h.stands.there ∙ (ap (slice_get x.s.plain.memory.heap) same ∙ stands.there)))
 
--- ---- of a struct
+-- ---- a struct
 
 module _ {T : Setup} {g : ℕ} {c : Record} (x : Situation T g c) (to : Option ℕ) (act : Action) (p : ℕ) (others removes : List ℕ)
     (a : IsAtOp T.code c (Do to act (p ∷ others) removes)) (at : ℕ) (points : word_of_frame a.w p ≡ suc at) where
@@ -208,7 +209,7 @@ module _ {T : Setup} {g : ℕ} {c : Record} (x : Situation T g c) (to : Option �
       before_is = let m = fields_there.2 in omega (arith, low, m);
     }
 
-  -- ---- of a slice
+  -- ---- a slice
 
   module _ (u : «Type») (typed : VariableHasType (erased_fn a.fn) p (slice_of u)) where
     pub slice_tys : (rest : List «Type») × ((operands.rule x to act (p ∷ others) removes a).0 ≡ slice_of u ∷ rest)

@@ -1,4 +1,5 @@
--- Accesses to elements that trap.
+-- Accesses to elements that trap. The length that was read is the slice's still (`Links`), so the machine's own test of the index fails
+-- in the state of the access.
 use Rattle.std.proofs.Common.{◌≡◌, inl, inr, ℕ, suc, ◌+◌, ◌<◌, ◌≤◌, ◌^◌, nat_lt, Bool, false, FitsSigned, ℤ, pos, negsuc, List, [], ◌∷◌, Option, Some, None, Result, Err, length, if◌then◌else◌, slice_get, slice_set, slice_index, refl, ap, sym, subst, ◌∙◌, arith, w64, Contains}
 use Rattle.std.proofs.lemmas.Bool.Decides.{nat_tests}
 use Rattle.std.proofs.lemmas.Int.{of_z-to_z}

@@ -1,4 +1,5 @@
--- Accesses to elements of slices: the length is read, and then the element is loaded or stored.
+-- Accesses to elements of slices: the length is read, and then the element is loaded or stored. The link of the record says that the slice
+-- still has the length. From there they go like fields, with one word before the cells.
 use Rattle.std.proofs.Common.{◌≡◌, ◌≢◌, inl, inr, ⊎_elim, ℕ, suc, ◌+◌, ◌<◌, ◌≤◌, nat_lt, Bool, false, true, pos, List, [], ◌∷◌, Option, Some, None, length, map, if◌then◌else◌, slice_get, slice_set, slice_index, refl, ap, sym, subst, ◌∙◌, arith, Contains}
 use Rattle.std.proofs.Math.ListN.{length-set}
 use Rattle.std.proofs.lemmas.Bool.Decides.{nat_tests}
@@ -103,7 +104,7 @@ measure_move T g c at here =
 
 -- ---- the operands
 
--- an element is behind the length
+-- an element is after the length
 elements_next : (cells : List Value) (index : ℕ) → suc index ≡ words_before (SliceObject cells) + index
 elements_next cells index = omega arith
 
@@ -156,7 +157,7 @@ module _ {T : Setup} {g : ℕ} {c : Record} (x : Situation T g c) (to : Option �
   pub word_low : suc index < words_of (SliceObject cells)
   word_low = let l = within in omega (arith, l)
 
-  -- the length that was read says that the slice fits a page
+  -- by the length that was read the slice fits a page
   pub fits_page : IsWhole T inside → is_spread T.sizes.page_words (SliceObject cells) ≡ false
   fits_page whole =
       let k = (x.core.links g c x.is_c).knows inside.measured inside.read in

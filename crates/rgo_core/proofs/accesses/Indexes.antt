@@ -1,4 +1,5 @@
--- The number of the data page that has a cell is read from the lead page.
+-- The number of the data page that has a cell is read from the lead page. The word is one of the object, and the record then knows the
+-- page by its link.
 use Rattle.std.proofs.Common.{◌≡◌, inr, ℕ, suc, ◌+◌, ◌-◌, ◌/◌, ◌%◌, ◌<◌, ◌≤◌, List, [], ◌∷◌, Option, Some, true, length, map, slice_get, slice_set, slice_index, None, option_map, refl, ap, sym, subst, ◌∙◌, arith}
 use Rattle.std.proofs.lemmas.Option.{same_Some, slice_get-map, slice_get_within}
 use Rattle.rgo_sound.specs.Code.Code.{Do}

@@ -1,4 +1,4 @@
--- Records that are before an access to an element, and such as are not.
+-- Records that are before an access to an element, and some that are not.
 use Rattle.std.proofs.Common.{◌≡◌, ℕ, List, [], ◌∷◌, Some, None, refl, ap, ◌∙◌, arith}
 use Rattle.std.proofs.lemmas.Option.{same_Some}
 use Rattle.rgo_sound.specs.Code.Code.{Code, CodeInstr, Do}

@@ -1,4 +1,6 @@
--- The links of records after an access: what it has to leave of the words, and what of its own record.
+-- The links of records after an access: what it has to leave of the words, and what of its own record. The records of others do not change,
+-- so it is a matter of words: nobody writes lengths, page numbers, or states of pages of a chain that another one returns. Each kind of
+-- access takes the lemma that fits the words that it writes.
 use Rattle.std.proofs.Common.{◌≡◌, ◌≢◌, ⊎_elim, ℕ, suc, ◌+◌, ◌-◌, ◌/◌, ◌<◌, ◌≤◌, false, true, true≢false, pos, List, [], ◌∷◌, ◌++◌, Option, Some, None, length, map, slice_get, slice_index, slice_set, refl, ap, sym, subst, ◌∙◌, arith}
 use Rattle.std.proofs.lemmas.List.{get_or-set_other}
 use Rattle.std.proofs.lemmas.Option.{same_Some}
@@ -111,7 +113,7 @@ pub data Goes (code : Code) (c d : Record) : Type 0 where
   Nowhere : d.frame ≡ c.frame → steps_of d ≡ steps_of c → Goes code c d
   Elsewhere : steps_of c ≤ steps_of d → IsNowhere code c → Goes code c d
 
--- and where it may go on, it has no reserved pages
+-- and if it may continue elsewhere, it has no reserved pages
 pub data Advances (code : Code) (c d : Record) : Type 0 where
   CountsOne : steps_of c < steps_of d → d.memory.reserved.pages ≡ [] → Advances code c d
   Waits : d.frame ≡ c.frame → steps_of d ≡ steps_of c → d.memory.reserved ≡ c.memory.reserved → Advances code c d
@@ -189,7 +191,7 @@ module _ {T : Setup} {g : ℕ} {c : Record} (x : Situation T g c) where
       some_none : (r : Region) → Some r ≡ None → ⊥
       some_none r e = cc e
 
-  -- nor where a duty is owed
+  -- nor while a duty is owed
   pub owing_none : (d : Duty) (ds : List Duty) → c.frame.holder.duties ≡ d ∷ ds → c.memory.reserved.pages ≡ []
   owing_none d ds owes = none_in c.memory.reserved.pages (λ some.
       let m = (x.core.links g c x.is_c).reserved some in no_duty (sym m.a.none ∙ owes))
@@ -197,7 +199,7 @@ module _ {T : Setup} {g : ℕ} {c : Record} (x : Situation T g c) where
       no_duty : [] ≡ d ∷ ds → ⊥
       no_duty e = cc e
 
-  -- some are of the slot of the region in which its next instruction makes an object
+  -- reserved pages belong to the slot of the region in which its next instruction makes an object
   pub slot_made : {op : CodeOp} (a : IsAtOp T.code c op) (by_slot : Region)
       → making_region (code_function T.code a.w.function) (top_names c.frame.holder.environments) a.instr.op ≡ Some by_slot
       → 0 < length c.memory.reserved.pages → c.memory.reserved.slot ≡ slot_number (layout T) by_slot
@@ -263,7 +265,7 @@ module _ {T : Setup} {g : ℕ} {c : Record} (x : Situation T g c) where
         let k = (x.core.links j e is).finds l read in
         record { past = k.past; before = λ now. still_at j e is e refl l.address l.cell l.page (k.before now) }
 
-    -- its own
+    -- its own record
     pub its_own : (d : Record) → d.memory.measured ≡ c.memory.measured → Goes T.code c d → (m : Measured) → d.memory.measured ≡ Some m
         → StillMeasured T.code (layout T) words d m
     its_own d same way m read = go way
@@ -327,7 +329,7 @@ module _ {T : Setup} {g : ℕ} {c : Record} (x : Situation T g c) where
         (subst (λ (r : Reserved). IsMakingIn T.code (layout T) c r.slot) (sym reserved) m)
     its_pages d (IsElsewhere steps nowhere none) some = absurd (some_of_none d.memory.reserved.pages none some)
 
-    -- Only chains that others give back have to keep their pages; what it has to free itself is told.
+    -- Only chains that others return have to keep their pages; what it has to free itself is a premise.
     pub links_by : (d : Record)
         → ((j r : ℕ) (e : Record) → j ≢ g → slice_get x.recs j ≡ Some e → ClosesSlot e.memory.give r
         → claimed_for (layout T) words r ≡ claimed_for (layout T) x.words r)
@@ -343,7 +345,7 @@ module _ {T : Setup} {g : ℕ} {c : Record} (x : Situation T g c) where
         })
         (at_set x.recs g j d e is)
 
-    -- its own, but for what it has to free
+    -- its own record, except for what it has to free
     its_link : (d : Record) → d.clock.owed ≡ left_to_free (layout T) words d.memory.give → d.memory.measured ≡ c.memory.measured
         → d.memory.located ≡ c.memory.located → Advances T.code c d → Link T.code (layout T) words d
     its_link d owed measured located advances = record {
@@ -362,7 +364,7 @@ module _ {T : Setup} {g : ℕ} {c : Record} (x : Situation T g c) where
         ∙ ap (left_to_free (layout T) words) (sym keeps.give))))
         keeps.measured keeps.located advances)
 
-    -- what it has to free, where no page of a chain that is given back is claimed or freed
+    -- what it has to free, if no page of a chain that is being returned is claimed or freed
     pub owed_closing : ((j r : ℕ) (e : Record) → slice_get x.recs j ≡ Some e → ClosesSlot e.memory.give r
         → claimed_for (layout T) words r ≡ claimed_for (layout T) x.words r)
         → (d : Record) → d.clock.owed ≡ c.clock.owed → d.memory.give ≡ c.memory.give
@@ -378,7 +380,7 @@ module _ {T : Setup} {g : ℕ} {c : Record} (x : Situation T g c) where
     links_closing claims d keeps advances = links_by d (λ j r e ne is closes. claims j r e is closes)
         (its_link d (owed_closing claims d keeps.owed keeps.give) keeps.measured keeps.located advances)
 
-    -- what it has to free is told
+    -- what it has to free is a premise
     pub links_freeing : (d : Record)
         → ((j r : ℕ) (e : Record) → j ≢ g → slice_get x.recs j ≡ Some e → ClosesSlot e.memory.give r
         → claimed_for (layout T) words r ≡ claimed_for (layout T) x.words r)
@@ -407,7 +409,7 @@ module _ {T : Setup} {g : ℕ} {c : Record} (x : Situation T g c) where
     pub fixed_low : i < base (layout T) → FixedStay (slice_set x.words i v)
     fixed_low low = fixed_apart (λ o n object r stands l fixed e. omega (arith, e, low))
 
-    -- one that is not of a page's state
+    -- a word that is not a page's state
     pub links_low : i < 32 → (d : Record) → Keeps c d → Advances T.code c d → Links T.code (layout T) (slice_set x.words i v) (slice_set x.recs g d)
     links_low low d keeps advances =
         links_with (slice_set x.words i v) (fixed_low (omega (arith, low))) (claims_apart (λ p l e. omega (arith, low, e))) d keeps advances
@@ -420,7 +422,7 @@ module _ {T : Setup} {g : ℕ} {c : Record} (x : Situation T g c) where
     pub claims_high : base (layout T) ≤ i → ClaimsStay (slice_set x.words i v)
     claims_high high = claims_apart (λ p l e. omega (arith, high, l, e))
 
-  -- as the memory of the same state shows them
+  -- by the image of memory of the same state
   pub fixed_shown : (words : List ℕ) (recs : List MemoryRec) → StateImage (layout T) words recs x.s (I x).places → FixedStay words
   fixed_shown words recs M o i object r stands low (Length elements is first) =
       let e : word_at (layout T) (I x).places o i ≡ word_at (layout T) (I x).places o 0 = ap (word_at (layout T) (I x).places o) first in

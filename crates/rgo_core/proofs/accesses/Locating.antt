@@ -1,4 +1,4 @@
--- The word of a cell that a record has located.
+-- The word of a cell that a record has located: its link says that the lead page still has this number.
 use Rattle.std.proofs.Common.{◌≡◌, ⊎_elim, ℕ, suc, ◌+◌, ◌/◌, ◌%◌, ◌≤◌, slice_index, ap, sym, ◌∙◌, arith}
 use Rattle.rgo_sound.specs.Code.Code.{CodeOp}
 use Rattle.rgo_sound.specs.Memory.Memory.{Object}

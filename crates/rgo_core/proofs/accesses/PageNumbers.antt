@@ -1,4 +1,4 @@
--- Two images of one layout have the same page numbers.
+-- Two images of one layout have the same page numbers: cells are at the same positions, and those of a page determine its number.
 use Rattle.std.proofs.Common.{◌≡◌, ℕ, suc, ◌+◌, ◌-◌, ◌*◌, ◌/◌, ◌<◌, ◌≤◌, nat_lt, true, List, slice_index, ap, sym, ◌∙◌, arith, mul-le-mul_right}
 use Rattle.std.proofs.Math.Nat.{div-mul-le_self}
 use Rattle.std.proofs.lemmas.Bool.Decides.{nat_tests}

@@ -1,4 +1,4 @@
--- The slice to which the first operand of a record's next instruction points.
+-- The slice to which the first operand of a record's next instruction points. It is live by the stake, and of its type by the invariant.
 use Rattle.std.proofs.Common.{◌≡◌, ℕ, suc, ◌+◌, ◌<◌, ◌^◌, FitsSigned, pos, List, [], ◌∷◌, Option, Some, None, length, map, replicate, slice_get, slice_index, refl, ap, sym, subst, ◌∙◌, arith, w64, Contains}
 use Rattle.std.proofs.lemmas.List.{length-replicate}
 use Rattle.std.proofs.lemmas.Option.{same_Some}
@@ -96,7 +96,7 @@ module _ {T : Setup} {g : ℕ} {c : Record} (x : Situation T g c) (to : Option �
       (value.Int (pos (length slice_there.0))) slice_stands refl
       ∙ small_word (length slice_there.0) length_small)
 
-  -- the words that follow its address lie in the pages
+  -- the words that follow its address are in the pages
   pub lies : LieInPages T at (slice_words T (slice_index x.words (base (layout T) + at)))
   lies =
       let l = lies_in T x.words (map memory_of x.recs) x.s (I x).places (I x).memory it.object (SliceObject slice_there.0) it.region slice_stands in
@@ -117,7 +117,7 @@ pub put_takes : (code : Tac) (f : TacFn) (tys : List «Type») → DoFits code f
     → (u : «Type») × (tys ≡ slice_of u ∷ int ∷ u ∷ [])
 put_takes code f tys fits = (fits.0, fits.1)
 
--- a slice in a live region, whose first word is there
+-- a slice in a live region, whose first word is at this address
 pub record HasSlice {T : Setup} {g : ℕ} {c : Record} (x : Situation T g c) (at : ℕ) : Type 0 where
   pub object : ℕ
   pub cells : List Value

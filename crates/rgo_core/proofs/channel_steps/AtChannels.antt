@@ -1,4 +1,5 @@
--- What the record of a goroutine at a channel says of the state: the channel, which is in a live region, and the operation.
+-- What follows from the record of a goroutine at a channel for the state: the channel, which is in a live region, and the operation. With
+-- an offer the frames are of no use, since the sender may be past its send. Then the image of channels has it.
 use Rattle.std.proofs.Common.{◌≡◌, inl, inr, ℕ, ◌+◌, List, ◌∷◌, Option, Some, map, slice_get, refl, ap, sym, subst, ◌∙◌, Contains}
 use Rattle.std.proofs.lemmas.Option.{same_Some}
 use Rattle.rgo_sound.specs.Typed.declared.actions.Action.{Action}
@@ -41,7 +42,7 @@ no_taken e = cc
 pub standing_or_taken : (o p : ℕ) → Standing o ≡ Taken p → ⊥
 standing_or_taken o p e = cc
 
--- two sends that are one have the same operands
+-- equal sends have the same operands
 pub same_operands : (to to' : Option ℕ) (from from' removes removes' : List ℕ)
     → Do to Send from removes ≡ Do to' Send from' removes' → from ≡ from'
 same_operands to to' from from' removes removes' e = cc
@@ -53,7 +54,7 @@ module _ {T : Setup} {g : ℕ} {c : Record} (x : Situation T g c) where
   holder_calm h e (Offered j) o own is = no_standing (ap nameless (sym is) ∙ e)
   holder_calm h e (Accepted j) o own is = no_taken (ap nameless (sym is) ∙ e)
 
-  -- it has no offer, as its frames say
+  -- it has no offer, by its frames
   pub calm : {op : CodeOp} → IsAtOp T.code c op → c.side.post ≡ Nowhere
   calm a = by c.side.post refl
     where
@@ -66,7 +67,7 @@ module _ {T : Setup} {g : ℕ} {c : Record} (x : Situation T g c) where
           absurd (holder_calm (at_instruction x a).before.h.offer (ap (λ (h : Holder). h.offer) (sym (at_instruction x a).before.holder) ∙ a.free)
           (x.core.image.at.phase q.0) q.0 q.4 (ap (λ (h : Holder). h.offer) (sym same) ∙ r.5))
 
-  -- the channel that a control word is of
+  -- the channel of a control word
   pub record Reaches (control : ℕ) : Type 0 where
     pub object : ℕ
     pub chan : Chan
@@ -84,7 +85,7 @@ module _ {T : Setup} {g : ℕ} {c : Record} (x : Situation T g c) where
     op_fits = types T.code x.core.sound.checked (bare a.here.w) a.here.fn a.here.instr a.here.in_fn a.here.cur
         (Do to action (a.channel ∷ others) a.removes) a.here.is
 
-    -- its first operand is of a channel's type
+    -- its first operand has a channel's type
     pub channel_type : (t : «Type») × VariableHasType (erased_fn a.here.fn) a.channel (chan_of t)
     channel_type =
         let t = op_fits in

@@ -1,4 +1,6 @@
--- The store that commits an operation of one goroutine on a channel: a send, a receive, the zero of a closed channel, a close.
+-- The store that commits an operation of one goroutine on a channel: a send, a receive, the zero of a closed channel, a close. `commits_it`
+-- carries all four: the channel becomes another of the same capacity, for which memory and frames are proved once. Left is the value:
+-- what is received was in the queue.
 use Rattle.std.proofs.Common.{◌≡◌, ◌⊎◌, ℕ, zero, suc, ◌+◌, ◌-◌, ◌%◌, ◌<◌, ◌≤◌, false, List, [], ◌∷◌, ◌++◌, Option, Some, length, map, max, option_map, slice_set, refl, ap, sym, subst, ◌∙◌, inl, arith, append-nil, pos, Contains, slice_get}
 use Rattle.std.proofs.lemmas.Option.{same_Some, slice_get_past, slice_get_within}
 use Rattle.rgo_sound.specs.Typed.declared.actions.Action.{Action}
@@ -65,7 +67,7 @@ use Rattle.rgo_core.proofs.accesses.Links.{CountsOne, all_kept, links_beside, on
 use Rattle.rgo_core.proofs.goroutines.Counting.{instructed_counts}
 use Rattle.rgo_core.proofs.steps.Lift.{moves_by}
 
--- of a channel with this capacity memory says the same
+-- memory determines the same words of each channel with this capacity
 told_same : (k z : Chan) → z.capacity ≡ k.capacity → (j : ℕ) → content (channel z) j ≡ content (channel k) j
 told_same k z e zero = refl
 told_same k z e (suc zero) = ap (λ n. content (Channel n [] false) 1) e
@@ -101,11 +103,11 @@ module _ {T : Setup} {g : ℕ} {c : Record} (x : Situation T g c) {to : Option �
       (subst (ObjectsDiffer x.core.image.addresses x.s.regions) (sym (append-nil x.s.owners))
       x.core.image.frames.addresses_differ)))
 
-  -- it has as many frames as before
+  -- it has equally many frames as before
   pub as_shallow : (word : ℕ) → length (commits a word).frame.frames ≤ deepest
   as_shallow word = subst (λ n. n ≤ deepest) (ap (λ l. length l) a.here.frames) (shallow x)
 
-  -- The channel becomes another of the same capacity, the instruction gives a value that this word shows, and the control becomes w.
+  -- The channel becomes another of the same capacity, the instruction has a value that this word shows, and the control becomes w.
   module _ (k y : Chan) (on : On x.s (object x a) k) (size : y.capacity ≡ k.capacity) (v : Value) (word w : ℕ)
       (does : performed T.code.structs action (destination_type (erased T.code) (here x a).before.frame to)
       (value.Object (object x a) ∷ operand_values (here x a).before.frame others) x.s.plain.memory
@@ -183,7 +185,7 @@ module _ {T : Setup} {g : ℕ} {c : Record} (x : Situation T g c) {to : Option �
       same = record { prints = refl; first = refl; children = refl; refused = refl };
     }
 
-    -- and it points where it may
+    -- and it points into the pages
     pub commit_points : LeadsToLive x.s v → Points T (target_type T a.here.w to) word
     commit_points live =
         gives_points x to action (a.channel ∷ others) a.removes a.here (with_object x.s.plain.memory (object x a) (channel y)) v

@@ -1,4 +1,4 @@
--- Records that are at a channel, and such as are not.
+-- Records that are at a channel, and some that are not.
 use Rattle.std.proofs.Common.{◌≡◌, ℕ, suc, ◌+◌, List, [], ◌∷◌, None, refl, ap, ◌∙◌, inl, inr, arith}
 use Rattle.rgo_core_frames.specs.goroutines.Opening.{no_record}
 use Rattle.rgo_core_memory.specs.Words.{base}

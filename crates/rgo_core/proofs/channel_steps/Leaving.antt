@@ -1,4 +1,4 @@
--- Words that a channel has, and accesses that leave them.
+-- Words that a channel has, and accesses that leave them: before the cells, in another object, above a fill, or in a reserved page.
 use Rattle.std.proofs.Common.{◌≡◌, ◌≢◌, ℕ, ◌+◌, ◌<◌, true, List, ◌++◌, Option, Some, None, length, slice_get, slice_set, slice_index, refl, ap, sym, ◌∙◌, arith}
 use Rattle.std.proofs.lemmas.List.{get_or-set_other}
 use Rattle.rgo_sound.specs.Memory.Memory.{Object}
@@ -36,7 +36,7 @@ pub channel_stands : (s : RegionState) (o : ℕ) (k : Chan) → On s o k
     → (r : Region) × IsLiveObject s.plain.memory.heap s.owners s.regions o (channel k) r
 channel_stands s o k on = let x = owner_of s o on.1 in (x.0, record { there = on.0; owner = x.1; live = x.2 })
 
--- where the same regions live, an object of before may be touched as before
+-- if the same regions are live, an old object may be touched as before
 pub touch_more : (s t : RegionState) (more : List Region) → t.owners ≡ s.owners ++ more → t.regions ≡ s.regions
     → (o : ℕ) → o < length s.owners → may_touch t (Some o) ≡ may_touch s (Some o)
 touch_more s t more owners regions o low =
@@ -73,7 +73,7 @@ module _ (z : TableSizes) (words : List ℕ) (recs : List MemoryRec) (s : Region
       let b = word_high z places o j in
       get_or-set_other words i (spot_of o j) x 0 (λ q. omega (arith, b, low, q))
 
-  -- a word of an object that is no channel is stored
+  -- a word of an object that is not a channel is stored
   pub apart_from : (p n x : ℕ) (object : Object) (r : Region) → IsLiveObject s.plain.memory.heap s.owners s.regions p object r
       → n < words_of object → ((o : ℕ) (k : Chan) → On s o k → o ≢ p) → (o j : ℕ) (k : Chan) → On s o k
       → j < 2 + extent k.capacity
@@ -96,7 +96,7 @@ module _ (z : TableSizes) (words : List ℕ) (recs : List MemoryRec) (s : Region
       (λ q. (differ z words recs (ground_of s) places M).1 g o j i f (channel k) c.0 owns c.1
       (in_table z.page_words (channel k) j h) low (sym q ∙ e))
 
-  -- a word of a page that is reserved is no word of an object
+  -- a word of a page that is reserved belongs to no object
   pub reserved_apart : (g page i : ℕ) (c : MemoryRec) → HasRecord recs g c → Within page c.reserved.pages → i < z.page_words
       → (o j : ℕ) (object : Object) (r : Region) → IsLiveObject s.plain.memory.heap s.owners s.regions o object r → j < table_words z.page_words object
       → word_at z places o j ≢ cell_at z page i

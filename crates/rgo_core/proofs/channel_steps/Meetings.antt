@@ -1,4 +1,6 @@
--- The store that commits an offer, a meeting or an acknowledgement.
+-- The store that commits an offer, a meeting or an acknowledgement. The meeting is the hard one: the receiver's access moves two goroutines
+-- in the state. The word that it has loaded is the sender's, since the image of channels has the sender at its send, with its
+-- value in the cell.
 use Rattle.std.proofs.Common.{◌≡◌, ◌⊎◌, ℕ, ◌+◌, ◌-◌, ◌≤◌, List, [], ◌∷◌, Option, Some, None, length, map, slice_get, slice_set, refl, ap, sym, subst, ◌∙◌, inl, inr, arith, Contains}
 use Rattle.std.proofs.lemmas.Option.{same_Some}
 use Rattle.rgo_sound.specs.Typed.declared.actions.Action.TheVariants.{Recv, Send}
@@ -65,7 +67,7 @@ use Rattle.rgo_core.proofs.accesses.Links.{CountsOne, IsElsewhere, all_kept, as_
 use Rattle.rgo_core.proofs.steps.Lift.{moves_by}
 
 module _ {T : Setup} {g : ℕ} {c : Record} (x : Situation T g c) where
-  -- the control of its channel is stored, as memory shows it
+  -- the control of its channel is stored, at its position in memory
   control_written : {control : ℕ} → Reaches x control → (w : ℕ)
       → StateImage (layout T) (slice_set x.words control w) (map memory_of x.recs) x.s x.core.image.places
   control_written r w =
@@ -204,7 +206,7 @@ module _ {T : Setup} {g : ℕ} {c : Record} (x : Situation T g c) (s o : ℕ) (v
   abbrev kinds : List «Type»
   kinds = x.core.sound.good.good.typed.kinds
 
-  -- what is sent has the type of the channel's elements
+  -- the value that is sent has the type of the channel's elements
   sent_kind : (t : «Type») × (slice_get kinds o ≡ Some (chan_of t)) × HasKind kinds t v
   sent_kind = by sends.before.to F.fits
     where
@@ -219,7 +221,7 @@ module _ {T : Setup} {g : ℕ} {c : Record} (x : Situation T g c) (s o : ℕ) (v
           (fits.0, h.0.0, h.1.0)
       by (Some d) fits = absurd fits.2
 
-  -- and so it points where its receiver's variable may
+  -- and so it points into the pages, by the type of its receiver's variable
   module _ {receiver : ℕ} (b : Before T.code x.s receiver Recv (value.Object o ∷ [])) (word : ℕ) (coded : (moment x).encode v ≡ word)
     where
       received_points : Points T (destination_type (erased T.code) b.frame b.to) word

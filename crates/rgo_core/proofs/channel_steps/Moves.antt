@@ -1,4 +1,5 @@
--- Loads of a channel's control, capacity and cells, the lock, and the store of a cell: the region machine makes no step.
+-- Loads of a channel's control, capacity and cells, the lock, and the store of a cell: the region machine makes no step. So frames stay,
+-- and memory too, since it does not determine these words. What changes is what the record knows of the channel.
 use Rattle.std.proofs.Common.{◌≡◌, ℕ, suc, ◌+◌, ◌-◌, ◌/◌, ◌%◌, ◌^◌, ◌<◌, ◌≤◌, ◌==◌, if◌then◌else◌, List, length, map, None, slice_get, slice_set, slice_index, Some, refl, ap, sym, subst, arith, inl, inr, ◌⊎◌, ◌∙◌}
 use Rattle.rgo_sound.specs.RegionMachine.Objects.{object_words as words_in}
 use Rattle.rgo_core_channels.specs.Channels.{Accepted, Calm, Chan, Offered, OfferOf, On, Phase, Places, channel, phase_number}
@@ -32,7 +33,7 @@ use Rattle.rgo_core.proofs.accesses.Links.{ClaimsStay, Waits, all_kept, claims_h
 use Rattle.rgo_core.proofs.steps.Lift.{moves_by}
 
 module _ {T : Setup} {g : ℕ} {c : Record} (x : Situation T g c) where
-  -- only what the record knows of channels changes, and a word of which memory says nothing
+  -- only what the record knows of channels changes, and a word that memory does not determine
   pub side_stays : (words : List ℕ) (side : SideRec) (at : Places)
       → StateImage (layout T) words (map memory_of x.recs) x.s x.core.image.places
       → ChannelsIn T.code (layout T) x.core.image.places words
@@ -75,7 +76,7 @@ module _ {T : Setup} {g : ℕ} {c : Record} (x : Situation T g c) where
   pub above : {control : ℕ} → Reaches x control → base (layout T) ≤ control
   above r = let e = r.place_is in omega (arith, e)
 
-  -- and lies behind the first words
+  -- and is after the first words
   pub high : {control : ℕ} → Reaches x control → 32 ≤ control
   high r = let e = r.place_is in omega (arith, e)
 
@@ -90,7 +91,7 @@ control_move T g c a r =
         × ((size : ℕ) → c.side.size ≡ Sized a size → head_of (slice_index x.words a) < extent size)
     is x = control_is (moment x) g c.side (side_at x) a (at_channel x r)
 
--- the phase of the channel at which a goroutine's offer stands
+-- the phase of the channel at which a goroutine's offer is
 own_phase : (M : Moment) (g : ℕ) (c : SideRec) → slice_get M.recs g ≡ Some c → (a : ℕ) → c.post ≡ Offering a
     → (count_of (slice_index M.words a) ≡ 1) ⊎ (count_of (slice_index M.words a) ≡ 2)
 own_phase M g c mine a post =

@@ -1,4 +1,5 @@
--- Traps at channels: the instruction of the region machine traps, and the end is set in the clock.
+-- Traps at channels: the instruction of the region machine traps, and the end is set in the clock. That the channel is closed in the state
+-- of the access follows from the image: a record that found it closed is right.
 use Rattle.std.proofs.Common.{◌≡◌, ◌⊎◌, ℕ, true, List, [], ◌∷◌, Option, Some, map, option_map, slice_get, slice_set, slice_index, refl, ap, sym, subst, ◌∙◌, inl, inr}
 use Rattle.std.proofs.lemmas.Option.{same_Some}
 use Rattle.rgo_sound.specs.Typed.declared.actions.Action.{Action}
@@ -83,7 +84,7 @@ module _ {T : Setup} {g : ℕ} {c : Record} (x : Situation T g c) (trap : Trap) 
 
 module _ {T : Setup} {g : ℕ} {c : Record} (x : Situation T g c) {to : Option ℕ} {action : Action} {others : List ℕ} {at : ℕ}
     (a : Operates T c to action others at) where
-  -- the channel was found closed, and is
+  -- the channel was found closed, and is closed
   is_shut : c.side.saw ≡ Shut at → (k : Chan) × On x.s (object x a) k × (k.closed ≡ true)
   is_shut saw =
       let q = x.core.image.channels.saws g at c.side (side_at x) saw in
@@ -166,7 +167,7 @@ module _ {T : Setup} {g : ℕ} {c : Record} (x : Situation T g c) {to : Option �
 pub close_nil_move : CloseNilMove
 close_nil_move T g c to channel removes a nil = by_ends T g c CloseNil a.instr.place (λ x. nil_ends x a nil)
 
--- ---- a send whose offer stands
+-- ---- a send with an open offer
 
 module _ {T : Setup} {g : ℕ} {c : Record} (x : Situation T g c) (a : IsAtSend T c) (o : ℕ) (k : Chan) (on : On x.s o k) (shut : k.closed ≡ true)
     (v : Value) (n : Next T.code x.s g Send (value.Object o ∷ v ∷ [])) (stands : n.holder.offer ≡ Standing o) where

@@ -1,4 +1,5 @@
--- Prints, ends, loads of the clock and draws of numbers, as steps of the rule.
+-- Prints, ends, loads of the clock and draws of numbers, as steps of the rule. The arithmetic of the word is here: tickets stay below 2^63,
+-- so an addition never reaches the bit of the end, and an `or` adds it or changes nothing.
 use Rattle.std.proofs.Common.{◌≡◌, ◌≢◌, inl, inr, ⊎_elim, ℕ, suc, ◌+◌, ◌%◌, ◌<◌, ◌≤◌, true, false, List, [], ◌∷◌, ◌++◌, Some, length, map, slice_get, slice_set, slice_index, bit_or, refl, ap, sym, subst, ◌∙◌, arith, length-append}
 use Rattle.std.proofs.Math.Nat.{mod-eq_of_lt}
 use Rattle.std.proofs.lemmas.List.{append-nil, length-map, map-append}
@@ -119,7 +120,7 @@ module _ {T : Setup} {g : ℕ} {c : Record} (x : Situation T g c) where
   abbrev n : ℕ
   n = slice_index x.words 16
 
-  -- the number is far below what a word holds
+  -- the number is far below 2^64
   fits_on : (n + 1) % 18446744073709551616 ≡ suc n
   fits_on =
       let d = drawn_low (most_goroutines T.limits) n (map clock_of x.recs) x.core.story.numbers in

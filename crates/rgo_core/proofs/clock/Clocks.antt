@@ -1,4 +1,5 @@
--- The clock after a print, after an end, and after any other step.
+-- The clock after a print, after an end, and after any other step. Sums over all records change by the one that acts. After a print the
+-- hard field is `pieces`: an old ticket is below the new one.
 use Rattle.std.proofs.Common.{◌≡◌, ◌≢◌, ℕ, ◌+◌, ◌*◌, ◌%◌, ◌^◌, ◌<◌, ◌≤◌, ◌==◌, nat_le, Bool, true, false, List, [], ◌∷◌, ◌++◌, Option, Some, None, length, slice_get, slice_set, slice_index, if◌then◌else◌, sum_by, bit_or, refl, ap, sym, subst, ◌∙◌, ⊎_elim, arith, append_assoc, length-append}
 use Rattle.std.proofs.lemmas.Bool.Decides.{nat_tests}
 use Rattle.std.proofs.lemmas.List.{append-nil}
@@ -71,7 +72,7 @@ module _ (words : List ℕ) (recs : List ClockRec) (s : RegionState) (before lat
       (λ (t : (h ≢ g) × (slice_get recs h ≡ Some y)). k.bound h y t.1)
       (at_set recs g h d y e)
 
-  -- who set the mark has still set it
+  -- the record that has set the mark has still set it
   setter_same : d.first ≡ c.first → (mark : Mark) → (h : ℕ) × (y : ClockRec) × (slice_get recs h ≡ Some y) × (y.first ≡ Some mark)
       → (h : ℕ) × (y : ClockRec) × (slice_get recs' h ≡ Some y) × (y.first ≡ Some mark)
   setter_same first mark (h, y, e, f) = dite (ℕ_discrete h g)
@@ -109,7 +110,7 @@ module _ (words : List ℕ) (recs : List ClockRec) (s : RegionState) (before lat
     abbrev word : ℕ
     word = slice_index words 0
 
-    -- where the run had not ended, the record has set the mark; else it says what it said
+    -- if the run had not ended, the record has set the mark; otherwise it keeps what it had
     pub is_first : s.mark ≡ None → (d.first ≡ Some mark) × (next.mark ≡ Some mark)
     is_first e = let h = k.shows in let z = ap end_bit e in (
       first ∙ ap (λ (b : Bool). if b then c.first else Some mark) (no_le 9223372036854775808 word (omega arith)),
@@ -160,7 +161,7 @@ module _ (words : List ℕ) (recs : List ClockRec) (s : RegionState) (before lat
         go None e = let z = is_first e in (g, d, set_here recs g d c at, z.0 ∙ (sym z.1 ∙ q))
         go (Some m) e = let z = is_later m e in setter_same z.0 w (k.setter w (e ∙ (sym z.1 ∙ q)))
 
-    -- nobody has set the mark while there is none
+    -- no record has set the mark while the run has none
     sole_now : sum_by has_set recs' ≤ 1
     sole_now = go s.mark refl
       where
@@ -338,7 +339,7 @@ module _ (words : List ℕ) (recs : List ClockRec) (s next : RegionState) (befor
           (λ q. (g, d, set_here recs g d c at, same_first ∙ (ap (λ (u : ClockRec). u.first) (same_Some c y (sym at ∙ (ap (λ z. slice_get recs z) (sym q) ∙ e))) ∙ f)))
           (λ ne. (h, y, set_else recs g h d ne ∙ e, f))
 
--- a goroutine that has done nothing is no matter of the clock
+-- a goroutine that has done nothing does not change the clock
 pub clock_child : (words : List ℕ) (recs : List ClockRec) (s : RegionState) (before late : List (List ℕ)) (child : ClockRec)
     → child.prints ≡ [] → child.first ≡ None → Clock words recs s before late → Clock words (recs ++ child ∷ []) s before late
 clock_child words recs s before late child no_prints no_first k = record {

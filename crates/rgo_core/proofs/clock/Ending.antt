@@ -1,4 +1,4 @@
--- A run is ended for want of room, or by a limit.
+-- A run is ended for lack of room, or by a limit. The cause is computed in the state of the access, from the record alone.
 use Rattle.std.proofs.Common.{◌≡◌, nat_lt, ℕ, ◌+◌, ◌<◌, ◌^◌, true, option_map, List, ◌∷◌, Option, Some, None, length, map, slice_set, slice_index, bit_or, refl, ap, sym, subst, ◌∙◌, arith}
 use Rattle.std.proofs.lemmas.Bool.Decides.{nat_tests}
 use Rattle.std.proofs.lemmas.List.{length-map}
@@ -95,9 +95,9 @@ stop_move T g c why stops =
     (λ n. record { prints = refl; first = refl; children = refl; refused = refl; accesses = refl })
     (λ x fits. ends x why (stops x))
 
--- ---- limits that the record tells
+-- ---- limits that the record shows
 
--- where a frame stands at an instruction
+-- a frame is at this instruction
 stands : (code : Code) (frame : TacFrame) (instr : CodeInstr) → current code frame ≡ Some instr
     → tac_stand (erased code) frame ≡ stand_before_op (erased code) frame (erased_op instr.op) instr.place
 stands code frame instr cur = ap (stand_at_instr (erased code) frame) (current_erased code frame ∙ ap (option_map erased_instr) cur)

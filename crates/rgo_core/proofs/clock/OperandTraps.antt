@@ -1,4 +1,4 @@
--- Traps that the operands of an instruction tell.
+-- Traps that follow from the operands of an instruction: their words show the values on which the machine's action traps.
 use Rattle.std.proofs.Common.{◌≡◌, ◌⊎◌, inl, inr, ℕ, ◌<◌, ◌≤◌, ◌^◌, ℤ, pos, negsuc, List, [], ◌∷◌, Option, Some, None, Err, map, refl, ap, subst, ◌∙◌, arith, w64, Contains}
 use Rattle.std.specs.Int.{cast_signed}
 use Rattle.rgo_sound.specs.Ast.declared.ops.BinaryOp.{BinaryOp}

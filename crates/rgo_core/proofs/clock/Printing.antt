@@ -1,4 +1,5 @@
--- A print draws a ticket, and is the instruction of the region machine.
+-- A print draws a ticket, and is the instruction of the region machine. It changes neither memory nor regions, so only the clock and the
+-- frame are left to show.
 use Rattle.std.proofs.Common.{◌≡◌, ℕ, ◌+◌, ◌%◌, List, ◌∷◌, Some, length, slice_get, slice_set, slice_index, sum_by, count_by, refl, ap, sym, subst, ◌∙◌, arith}
 use Rattle.std.proofs.lemmas.List.{append-nil}
 use Rattle.std.proofs.lemmas.Option.{same_Some}

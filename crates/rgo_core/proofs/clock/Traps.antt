@@ -1,4 +1,4 @@
--- A trap of an instruction ends the run, unless it has ended.
+-- A trap of an instruction ends the run, unless it has ended. In both cases the machine makes the step; its mark is set only in the first.
 use Rattle.std.proofs.Common.{◌≡◌, ℕ, Option, Some, None, map, slice_set, slice_index, bit_or, refl, sym, subst, ◌∙◌, arith, ap, length}
 use Rattle.rgo_sound.specs.Code.Code.{CodeOp}
 use Rattle.rgo_sound.specs.Machine.declared.picks.End.{End}
@@ -66,7 +66,7 @@ module _ {T : Setup} {g : ℕ} {c : Record} (x : Situation T g c) (trap : Trap) 
         cause = λ e. tt;
       }
 
-  -- of a goroutine that is at no channel
+  -- for a goroutine that is at no channel
   pub traps_so : c.side ≡ at_rest → {op : CodeOp} (a : IsAtOp T.code c op) → (IsGo op → ⊥) → EndsRunNext x (Ended (the_end.Trap trap place)) d
   traps_so rests a no_go =
       trap_ends
@@ -76,7 +76,7 @@ module _ {T : Setup} {g : ℕ} {c : Record} (x : Situation T g c) (trap : Trap) 
       (quiet_keeps T.code (layout T) x.words _ x.s F.state (Instruct (One g)) x.core.image.places x.core.image.memory F.steps
       (F.same.memory, not_go x a no_go)))
 
--- from what each state says
+-- from a fact about each state
 pub by_ends : (T : Setup) (g : ℕ) (c : Record) (trap : Trap) (place : ℕ)
     → ((x : Situation T g c) → EndsRunNext x (Ended (the_end.Trap trap place)) (trapped_record c (slice_index x.words 0) trap place))
     → Moves T g c clock_at (λ n. bit_or n 9223372036854775808) (λ n d. d ≡ trapped_record c n trap place)

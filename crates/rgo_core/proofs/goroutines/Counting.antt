@@ -1,4 +1,4 @@
--- What all records have counted, after one has counted more.
+-- What all records have counted, after one has counted more: a sum, of which one term grows.
 use Rattle.std.proofs.Common.{◌≡◌, ℕ, zero, suc, ◌+◌, List, [], ◌∷◌, ◌++◌, Some, slice_get, slice_set, refl, ap, sym, ◌∙◌, arith}
 use Rattle.std.proofs.lemmas.Option.{same_Some}
 use Rattle.rgo_sound.specs.RegionMachine.Counts.{Counts}

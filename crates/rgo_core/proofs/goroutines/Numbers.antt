@@ -1,4 +1,5 @@
--- Numbers of goroutines after a draw, and after any other step.
+-- Numbers of goroutines after a draw, and after any other step. Below the limit the number found is the length of the list, so the new
+-- goroutine gets its own position. At the limit it is not, and the record remembers the refusal.
 use Rattle.std.proofs.Common.{◌≡◌, ◌≢◌, ℕ, suc, ◌+◌, ◌<◌, ◌≤◌, ◌==◌, true, false, List, [], ◌∷◌, ◌++◌, length, Some, slice_get, slice_set, sum_by, count_by, ap, sym, subst, ◌∙◌, ⊎_elim, arith, length-append}
 use Rattle.std.proofs.lemmas.List.Sums.{count_by-le-length, sum_by_push}
 use mathlib.Core.Logic.{dite}

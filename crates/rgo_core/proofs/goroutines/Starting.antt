@@ -1,4 +1,5 @@
--- A goroutine starts another: the draw of its number is the instruction of the region machine.
+-- A goroutine starts another: the draw of its number is the instruction of the region machine. All lists of goroutines grow by one at the
+-- end, so every part of the image is proved for the old records and the new one.
 use Rattle.std.proofs.Common.{◌≡◌, ⊎_elim, ℕ, suc, ◌+◌, ◌≤◌, List, [], ◌∷◌, ◌++◌, Some, length, map, slice_get, slice_set, slice_index, sum_by, count_by, refl, ap, sym, subst, ◌∙◌, arith, length-append}
 use Rattle.std.proofs.lemmas.List.{append-nil}
 use Rattle.std.proofs.lemmas.Option.{same_Some, slice_get_within}

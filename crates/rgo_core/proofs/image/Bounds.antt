@@ -1,4 +1,5 @@
--- The words of live objects lie in the pages, and so do those to which a word of a pointer leads.
+-- The words of live objects are in the pages, and so are those to which a word of a pointer leads. A pointer's type gives the least size of
+-- its object. Every value that an action can have leads to live objects, since what it reads does.
 use Rattle.std.proofs.Common.{◌≡◌, ℕ, suc, ◌+◌, ◌-◌, ◌*◌, ◌<◌, ◌≤◌, false, true, List, [], ◌∷◌, Option, Some, None, length, map, max, if◌then◌else◌, option_map, slice_get, refl, ap, sym, subst, ◌∙◌, arith, true≢false}
 use Rattle.std.proofs.lemmas.List.{length-map}
 use Rattle.std.proofs.lemmas.Option.{get_or_from_slice_get, same_Some, slice_get-map}
@@ -47,7 +48,7 @@ use Rattle.rgo_core.specs.Records.{Record}
 use Rattle.rgo_core.proofs.new_objects.MakesObject.{type_alike}
 use Rattle.rgo_core.proofs.steps.Operands as operands
 
--- ---- an object has as many words as its type says
+-- ---- an object has at least the words of its type
 
 pub as_many : (kinds tys : List «Type») (vs : List Value) → HaveKinds kinds tys vs → length vs ≡ length tys
 as_many kinds [] [] h = refl
@@ -63,7 +64,7 @@ same_row page_words was object same =
     ∙ (ap (λ w. if is_spread page_words was then (w - cells_in object) + data_pages page_words was else w) same.0
     ∙ ap (λ k. if is_spread page_words was then (words_of was - k) + data_pages page_words was else words_of was) same.1))
 
--- of a spread object, and of another one
+-- for a spread object, and for another one
 pub spread_row : (page_words : ℕ) (object : Object) → is_spread page_words object ≡ true
     → row_words page_words object ≡ words_before object + data_pages page_words object
 spread_row page_words object sp = ap (λ b. if b then words_before object + data_pages page_words object else words_of object) sp
@@ -103,7 +104,7 @@ last_low (Channel capacity queue closed) = omega arith
 
 -- ---- values that lead to live objects
 
--- if it is an object, that is in a live region
+-- if it is an object, it is in a live region
 abbrev pub LeadsToLive : RegionState → Value → Type 0
 LeadsToLive s v = (o : ℕ) → v ≡ value.Object o → IsOfLive s.regions s.owners o
 
@@ -226,7 +227,7 @@ module _ {T : Setup} {g : ℕ} {c : Record} (x : Situation T g c) (to : Option �
       fits.2 have) in
       (p.0, p.2, subst (λ (ty : «Type»). HasKind p.0 ty v) (sym e) p.3)
 
-  -- and so it points where it may, in an image of a state with the memory after it
+  -- and so it points into the pages, in an image of a state with the memory after it
   module _ (words : List ℕ) (recs : List MemoryRec) (s : RegionState) (places : Where) (M : StateImage (layout T) words recs s places)
       (addresses : List ℕ) (addressed : (o k : ℕ) → slice_get addresses o ≡ Some k → k ≡ address (layout T) places.start o)
       (memory : s.plain.memory ≡ mem) (word : ℕ) (live : LeadsToLive s v) (shows : Shows addresses v word) where

@@ -1,4 +1,4 @@
--- Ints that memory holds are of 64 bits.
+-- Ints that memory holds have 64 bits.
 use Rattle.std.proofs.Common.{◌≡◌, ℕ, ℤ, zero, suc, pos, Some, length, slice_get, FitsSigned, subst}
 use Rattle.std.proofs.lemmas.Option.{same_Some}
 use Rattle.std.specs.Int.{w64}

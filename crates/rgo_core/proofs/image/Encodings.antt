@@ -1,5 +1,6 @@
 -- One encoding of values: the word that shows a value is the one that encodes it. Pointers to objects that were made are
--- encoded as before when an object more has been placed.
+-- encoded as before when another object has been placed. Frames say which value a word shows, memory which word encodes a value. The way
+-- back needs an int of 64 bits and an object that was made.
 use Rattle.std.proofs.Common.{◌≡◌, ℕ, suc, ◌+◌, ◌*◌, ◌<◌, ◌^◌, FitsSigned, ℤ, pos, List, [], ◌∷◌, length, Option, Some, slice_get, refl, ap, sym, subst, ◌∙◌, arith, w64}
 use Rattle.std.specs.Int.{cast_signed, cast_unsigned}
 use Rattle.std.proofs.lemmas.Int.{of_z-to_z}
@@ -45,7 +46,7 @@ module _ (addresses : List ℕ) (at : ℕ → ℕ) (addressed : (o a : ℕ) → 
   word_is value.Nil w sh = sym sh
   word_is (value.Object o) w sh = ap suc (sym (addressed o sh.0 sh.1)) ∙ sym sh.2
 
-  -- and the word that encodes it shows it, if an int is one of 64 bits and an object was made
+  -- and the word that encodes it shows it, if an int has 64 bits and an object was made
   pub shows_it : (v : Value) → ((n : ℤ) → v ≡ value.Int n → FitsSigned w64 n)
       → ((o : ℕ) → v ≡ value.Object o → o < length addresses) → Shows addresses v (encode at v)
   shows_it (value.Int n) fits made = ((laws.of_z_fits w64 n (fits n refl)).fits, sym (laws.to_z-of_z w64 n (fits n refl)))
@@ -67,7 +68,7 @@ old_code z a b n same (value.Object p) l =
 -- ---- pointers lead to objects that were made
 
 module _ (code : Code) (s : RegionState) (all : AllGood code s) where
-  -- those that a channel, or another object, holds
+  -- those in a channel or another object
   pub held_made : (o i p : ℕ) (object : Object) → slice_get s.plain.memory.heap o ≡ Some object
       → slice_get (cells_of object) i ≡ Some (value.Object p) → p < length s.plain.memory.heap
   held_made o i p object e q =
@@ -112,7 +113,7 @@ module _ (code : Code) (s : RegionState) (all : AllGood code s) where
         fits = rule.2;
       }
 
-  -- what an instruction is to send or to store
+  -- what an instruction sends or stores
   pub operand_made : IsChecked code → (g : ℕ) (a : Action) (u v : Value) (p : ℕ) → Before code s g a (u ∷ v ∷ []) → v ≡ value.Object p
       → p < length s.plain.memory.heap
   operand_made checked g a u v p b e =

@@ -1,4 +1,5 @@
--- The parts of an image about one goroutine, and an image put together from its parts.
+-- The parts of an image about one goroutine, and an image put together from its parts. It is the joint of the three crates below: each
+-- gives its image of the same next state.
 use Rattle.std.proofs.Common.{◌≡◌, ℕ, ◌+◌, ◌≤◌, List, Some, length, map, count_by, sum_by, slice_get, slice_set, ap, sym, subst, ◌∙◌}
 use Rattle.rgo_sound.specs.Machine.Limits.{deepest}
 use Rattle.rgo_sound.specs.RegionMachine.Counts.{counts_of, is_removed, pages_if_removed}
@@ -66,7 +67,7 @@ module _ {T : Setup} {g : ℕ} {c : Record} (x : Situation T g c) where
 
   -- ---- numbers
 
-  -- it has no more frames than it may
+  -- it has at most as many frames as it may
   pub shallow : length c.frame.frames ≤ deepest
   shallow = shallow_here x g c.frame (frame_at x)
 

@@ -1,4 +1,4 @@
--- What the core says where laws about frames, memory and channels begin; and words that are no matter of the image.
+-- What the core has for the premises of laws about frames, memory and channels; and words that the image does not read.
 use Rattle.std.proofs.Common.{◌≡◌, inl, ℕ, zero, suc, ◌<◌, ◌≤◌, List, Some, length, map, slice_get, slice_set, ap, sym, subst, ◌∙◌, arith}
 use Rattle.rgo_sound.specs.Code.Code.{CodeOp, Code}
 use Rattle.rgo_core_channels.proofs.Quiet as channel_laws
@@ -86,7 +86,7 @@ word_high z places o zero = omega arith
 word_high z places o (suc zero) = omega arith
 word_high z places o (suc (suc j)) = omega arith
 
--- words before those of pages are no words of channels
+-- words before those of pages belong to no channel
 pub channels_beside : (code : Code) (z : TableSizes) (places : Where) (words : List ℕ) (recs : List SideRec) (s : RegionState) (at : Places) (i v : ℕ)
     → i < base z → ChannelsIn code z places words recs s at
     → ChannelsIn code z places (slice_set words i v) recs s at

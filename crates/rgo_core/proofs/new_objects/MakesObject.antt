@@ -1,4 +1,4 @@
--- What the object that a record makes next says of the region machine.
+-- What follows from the object that a record makes next: the machine's action makes the same one, by the size that its operand shows.
 use Rattle.std.proofs.Common.{◌≡◌, inl, inr, ℕ, ◌<◌, ◌≤◌, ◌^◌, false, pos, List, [], ◌∷◌, Option, Some, None, map, replicate, slice_get, refl, ap, sym, subst, ◌∙◌, arith, Contains}
 use Rattle.std.specs.Int.{cast_signed, w64}
 use Rattle.rgo_sound.specs.Code.Code.{CodeOp, Do}
@@ -62,7 +62,7 @@ pub type_alike : (code : Tac) (frame : TacFrame) (w : WordFrame) → IsAlike fra
 type_alike code frame w alike None = refl
 type_alike code frame w alike (Some d) = ap (λ k. variable_type (slice_get code.functions k) d) alike.function
 
--- ---- what kinds of objects are
+-- ---- kinds of objects
 
 pub struct_no_channel : (cells : List Value) (k : Chan) → StructObject cells ≡ channel k → ⊥
 struct_no_channel cells k e = cc

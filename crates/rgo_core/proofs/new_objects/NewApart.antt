@@ -1,4 +1,5 @@
--- The state after the last word of a spread object is stored, and the image of it.
+-- The state after the last word of a spread object is stored, and the image of it. As for an object in one page (`NewObjects`), with
+-- reserved pages in place of the own one. The step exists because the machine has reserved as many pages as the record.
 use Rattle.std.proofs.Common.{◌≡◌, ◌⊎◌, zero, inl, inr, ⊎_elim, ℕ, suc, ◌+◌, ◌-◌, ◌&&◌, not, nat_lt, ◌*◌, ◌<◌, Bool, true, false, List, [], ◌∷◌, ◌++◌, Option, Some, None, length, map, set, if◌then◌else◌, slice_get, slice_set, slice_index, refl, ap, sym, subst, ◌∙◌, arith}
 use Rattle.std.proofs.Math.ListN.{length-set}
 use Rattle.std.proofs.lemmas.Bool.Decides.{nat_tests}
@@ -300,7 +301,7 @@ module _ {T : Setup} {g : ℕ} {c : Record} (x : Situation T g c) (to : Option �
   abbrev pub place' : ℕ → ℕ
   place' = place_at z places'
 
-  -- a channel of before is an object of before
+  -- an old channel is an old object
   on_low : (o : ℕ) (k : Chan) → On s o k → o < n
   on_low o k on = below s.plain.memory.heap o (channel k) on.0
 

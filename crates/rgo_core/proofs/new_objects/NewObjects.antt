@@ -1,4 +1,5 @@
--- The last store of a new object's words is the instruction that makes it.
+-- The last store of a new object's words is the instruction that makes it. Here all three images change: memory has one object more, frames
+-- a word that points to it, channels perhaps a new channel. The step comes first, then where the object is, then the images.
 use Rattle.std.proofs.Common.{◌≡◌, ◌≢◌, ◌⊎◌, zero, inl, inr, ⊎_elim, ℕ, suc, ◌+◌, ◌*◌, ◌<◌, ◌≤◌, Bool, true, false, List, [], ◌∷◌, ◌++◌, Option, Some, None, length, map, set, nat_le, if◌then◌else◌, slice_get, slice_set, slice_index, refl, ap, sym, subst, ◌∙◌, arith}
 use Rattle.std.proofs.Math.ListN.{length-set}
 use Rattle.std.proofs.lemmas.Bool.Decides.{nat_tests}
@@ -96,7 +97,7 @@ only_new n (Channel capacity queue closed) fresh o k m =
     let f = fresh (record { capacity = capacity; queue = queue; closed = closed }) refl in
     (m.0, (λ i. Channel capacity (f.0 i) (f.1 i)) ∙ ap channel (sym m.1))
 
--- where slots are numbers
+-- slots of regions as numbers
 pub slot_is : (z : TableSizes) (slot_at : ℕ → ℕ) (r : Region) → slot_number z (slotted_region slot_at r) ≡ slot_of z slot_at r
 slot_is z slot_at GlobalRegion = refl
 slot_is z slot_at (Numbered k) = refl
@@ -331,7 +332,7 @@ module _ {T : Setup} {g : ℕ} {c : Record} (x : Situation T g c) (to : Option �
   abbrev pub place' : ℕ → ℕ
   place' = place_at z places'
 
-  -- a channel of before is an object of before
+  -- an old channel is an old object
   on_low : (o : ℕ) (k : Chan) → On s o k → o < n
   on_low o k on = below s.plain.memory.heap o (channel k) on.0
 

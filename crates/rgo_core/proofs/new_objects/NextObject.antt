@@ -1,4 +1,4 @@
--- The object that a record makes next, as the plain machine makes it.
+-- The object that a record makes next is the one that the plain machine makes.
 use Rattle.std.proofs.Common.{◌≡◌, ◌≤◌, ℕ, ◌+◌, ◌^◌, option_map, List, [], ◌∷◌, ◌++◌, Option, Some, None, length, slice_get, refl, ap, ◌∙◌}
 use Rattle.rgo_sound.specs.Machine.declared.picks.Pick.TheVariants.{One}
 use Rattle.rgo_sound.specs.Code.Code.{Do}

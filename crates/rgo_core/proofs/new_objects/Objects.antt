@@ -1,4 +1,5 @@
--- The stores of a new object's words.
+-- The stores of a new object's words. Before the last one nothing of the state changes, and the word is one that no object, channel or link
+-- reads.
 use Rattle.std.proofs.Common.{◌≡◌, ◌≢◌, inl, inr, ⊎_elim, ℕ, suc, ◌+◌, ◌*◌, ◌<◌, ◌≤◌, List, [], ◌∷◌, Option, Some, length, map, slice_set, refl, ap, sym, subst, ◌∙◌, arith}
 use Rattle.std.proofs.lemmas.List.{append-nil, length-append}
 use Rattle.rgo_sound.specs.Code.Code.{Do}
@@ -69,7 +70,7 @@ module _ {T : Setup} {g : ℕ} {c : Record} (x : Situation T g c) (f : Fill) (ob
       (in_table T.sizes.page_words (channel k) j lj) (omega (arith, room, small))
       (sym e ∙ channel_word (layout T) x.words (map memory_of x.recs) x.s (I x).places (I x).memory o j k on lj)
 
-  -- nor has an object that stands
+  -- nor has a live object
   pub fixed_stay : (v : ℕ) → FixedStay x (slice_set x.words (cell_at (layout T) f.page (f.fill + i)) v)
   fixed_stay v = fixed_apart x (cell_at (layout T) f.page (f.fill + i)) v (λ o n at r stands low fixed e.
       let room = fits in

@@ -1,4 +1,4 @@
--- The last word of a spread object is stored: the object is made.
+-- The last word of a spread object is stored: the object is made, by `NewApart` in every state that has this record.
 use Rattle.std.proofs.Common.{◌≡◌, inl, ℕ, suc, ◌+◌, ◌<◌, ◌≤◌, List, [], ◌∷◌, Option, Some, length, slice_set, refl, ap, subst, ◌∙◌, arith}
 use Rattle.std.proofs.lemmas.List.{append-nil, length-append}
 use Rattle.rgo_sound.specs.Code.Code.{Do}

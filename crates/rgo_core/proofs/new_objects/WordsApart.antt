@@ -1,4 +1,4 @@
--- The words of a spread object are stored in its reserved pages.
+-- The words of a spread object are stored in its reserved pages, which hold no other object, so nobody reads these words.
 use Rattle.std.proofs.Common.{◌≡◌, ◌≢◌, false, true, inr, ⊎_elim, ℕ, ◌+◌, ◌<◌, List, ◌∷◌, length, map, slice_set, refl, sym, ◌∙◌, arith}
 use Rattle.rgo_sound.specs.Memory.Memory.{Object}
 use Rattle.rgo_sound.specs.RegionMachine.declared.regions.Region.{Region}

@@ -1,4 +1,5 @@
--- Accesses to chains of pages.
+-- Accesses to chains of pages. No state changes, so memory's law is nearly all. What is added are the links: how many pages are owed, which
+-- only a page that is freed changes.
 use Rattle.std.proofs.Common.{◌≡◌, inr, ⊎_elim, ℕ, zero, suc, ◌+◌, ◌-◌, ◌<◌, ◌≤◌, List, [], ◌∷◌, map, drop, slice_set, slice_index, refl, ap, sym, subst, ◌∙◌, arith}
 use Rattle.std.proofs.lemmas.Bool.Decides.{nat_tests}
 use Rattle.rgo_core_channels.proofs.Lists.{set_own}
@@ -75,7 +76,7 @@ module _ (z : TableSizes) (words : List ℕ) (recs : List MemoryRec) (x : Ground
                   (subst (λ (m : ℕ). PageChain places.link m ps) (ap places.link same ∙ link) ch.1),
             )
 
-    -- the slot of a chain that is given back
+    -- the slot of a chain that is being returned
     pub closing_low : (r : ℕ) → ClosesSlot c.give r → r < z.slots
     closing_low r h = (k.counts.closes g r c own h).0
 
@@ -123,7 +124,7 @@ module _ {T : Setup} {g : ℕ} {c : Record} (x : Situation T g c) where
     links = links;
   })
 
-  -- its links, where the chain that it gives back stays as it is
+  -- its links, if the chain that it returns stays as it is
   pub as_before : (i v : ℕ) → 32 + T.sizes.pages ≤ i → i < base (layout T) → (m : MemoryRec) → m.measured ≡ c.memory.measured
       → m.located ≡ c.memory.located → m.reserved ≡ c.memory.reserved → left_to_free (layout T) x.words m.give ≡ left_to_free (layout T) x.words c.memory.give
       → Links T.code (layout T) (slice_set x.words i v) (slice_set x.recs g (remembers c m))

@@ -1,4 +1,5 @@
--- The exchange that claims a page.
+-- The exchange that claims a page. Found free, it is the machine's step, which has room because the page was free. Found in use, only the
+-- record changes. A chain that another goroutine returns is of another slot, so its links stay.
 use Rattle.std.proofs.Common.{◌≡◌, ◌≢◌, inl, ℕ, zero, suc, ◌+◌, ◌<◌, ◌≤◌, ◌==◌, Bool, true, false, List, [], ◌∷◌, nat_le, Option, Some, None, map, if◌then◌else◌, slice_get, slice_set, slice_index, refl, ap, sym, subst, ◌∙◌, arith}
 use Rattle.std.proofs.lemmas.Bool.Decides.{nat_tests}
 use Rattle.std.proofs.lemmas.Option.{same_Some}
@@ -57,7 +58,7 @@ use Rattle.rgo_core.proofs.pages.Room.{page_there}
 use Rattle.rgo_core.proofs.image.Standing.{memory_at}
 use Rattle.rgo_core.proofs.goroutines.Counting.{plus_zero}
 
--- ---- a page more leaves all else
+-- ---- one page more leaves all else
 
 more_pages : (regions : List RegionInfo) (k j : ℕ)
     → has_stakes (slice_get (with_info regions k one_page_more) j) ≡ has_stakes (slice_get regions j)
@@ -182,7 +183,7 @@ module _ {T : Setup} {g : ℕ} {c : Record} (x : Situation T g c) (to : Option �
         (object, next, whole) P.steps
         idle resting low none)
 
-    -- a chain that is given back is of another slot
+    -- a chain that is being returned has another slot
     other_slot : (j t : ℕ) (e : Record) → slice_get x.recs j ≡ Some e → ClosesSlot e.memory.give t → t ≢ sl
     other_slot j t e is closes same =
         stake_open z x.words recs (ground_of x.s) (I x).places (I x).memory (steady_of T.code x.s x.core.sound.good) g j sl e.memory

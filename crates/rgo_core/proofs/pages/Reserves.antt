@@ -1,4 +1,5 @@
--- The exchange that claims a page for a spread object.
+-- The exchange that claims a page for a spread object. As in `Claims`. That the machine wants another page follows from the number of
+-- reserved ones, which is the same in the record and the machine.
 use Rattle.std.proofs.Common.{◌≡◌, ◌≢◌, inl, ℕ, zero, suc, ◌+◌, ◌<◌, ◌==◌, Bool, true, false, List, length, Option, Some, map, if◌then◌else◌, slice_get, slice_set, slice_index, refl, ap, sym, subst, ◌∙◌, arith}
 use Rattle.std.proofs.lemmas.Bool.Decides.{nat_tests}
 use Rattle.std.proofs.lemmas.Option.{same_Some}
@@ -151,7 +152,7 @@ module _ {T : Setup} {g : ℕ} {c : Record} (x : Situation T g c) (to : Option �
         (object, next, spread) (λ some. slotted some ∙ sym in_slot) P.steps
         idle resting low none)
 
-    -- a chain that is given back is of another slot
+    -- a chain that is being returned has another slot
     other_slot : (j t : ℕ) (e : Record) → slice_get x.recs j ≡ Some e → ClosesSlot e.memory.give t → t ≢ sl
     other_slot j t e is closes same =
         stake_open z x.words recs (ground_of x.s) (I x).places (I x).memory (steady_of T.code x.s x.core.sound.good) g j sl e.memory

@@ -1,4 +1,4 @@
--- A page that was found free, or a slot, is one that is left: the step that takes it has room.
+-- A page or a slot that was found free: the step that takes it has room, since fewer than all are in use at that moment.
 use Rattle.std.proofs.Common.{◌≡◌, ℕ, ◌<◌, true, nat_lt, List, [], ◌∷◌, length, map, Option, Some, None, slice_get, slice_index, refl, ap, ◌∙◌, arith}
 use Rattle.std.proofs.lemmas.Bool.Decides.{nat_tests}
 use Rattle.rgo_sound.specs.Code.Code.{Code}

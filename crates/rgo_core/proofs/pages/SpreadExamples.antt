@@ -1,4 +1,4 @@
--- Records that work at spread objects, in pages of four words.
+-- Records that work at spread objects, in pages of four words, by computation.
 use Rattle.std.proofs.Common.{◌≡◌, ℕ, zero, suc, List, [], ◌∷◌, Some, None, length, slice_get, refl, ap, sym, ◌∙◌, arith}
 use Rattle.std.proofs.lemmas.Option.{same_Some}
 use Rattle.rgo_sound.specs.Code.Code.{Code, CodeInstr, CodeOp, Do}

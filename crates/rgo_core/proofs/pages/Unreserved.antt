@@ -1,4 +1,5 @@
--- Where a record has no reserved pages: a goroutine has some only while its next instruction makes a spread object.
+-- When a record has no reserved pages: a goroutine has some only while its next instruction makes a spread object. The law of frames has
+-- it of runs, and the core has the run.
 use Rattle.std.proofs.Common.{◌≡◌, ℕ, ◌<◌, true, false, true≢false, List, [], ◌∷◌, length, Some, None, refl, ap, sym, ◌∙◌, arith}
 use Rattle.std.proofs.lemmas.Option.{same_Some}
 use Rattle.rgo_sound.specs.Machine.declared.picks.Pick.TheVariants.{One}

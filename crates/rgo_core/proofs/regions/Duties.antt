@@ -1,4 +1,4 @@
--- A duty that leaves the regions leaves what memory shows of the state.
+-- A duty that leaves the regions leaves what memory shows of the state: an equation, by the tests of the duty.
 use Rattle.std.proofs.Common.{◌≡◌, ◌⊎◌, inl, inr, ⊎_elim, ℕ, Bool, true, false, nat_eq, List, [], ◌∷◌, Option, Some, None, if◌then◌else◌, option_and_then, length, map, slice_get, slice_set, refl, ap, sym, ◌∙◌, arith, length-append}
 use Rattle.std.specs.List.{list_any}
 use Rattle.std.proofs.lemmas.Option.{same_Some}
@@ -19,7 +19,7 @@ use Rattle.rgo_sound.specs.RegionMachine.declared.regions.Region.TheVariants.{Gl
 pub record Attends (s t : RegionState) (g : ℕ) (h : Holder) : Type 0 where
   pub holder : Holder
   pub holders : t.holders ≡ slice_set s.holders g holder
-  -- where the regions are the same, so are stakes and fills
+  -- if the regions are the same, so are stakes and fills
   pub held : t.regions ≡ s.regions → held_of holder ≡ held_of h
 
 attends_is : (s t u : RegionState) (g : ℕ) (h k : Holder) → u.holders ≡ slice_set s.holders g k

@@ -1,4 +1,5 @@
--- Accesses to the counts of regions.
+-- Accesses to the counts of regions. Each number found is compared with what the image says of counts: 0 is a free slot, 2 one stake. The
+-- hard case is the last stake: objects and channels of the region are no longer live, and its pages become owed.
 use Rattle.std.proofs.Common.{◌≡◌, ◌≢◌, inl, inr, ⊎_elim, ℕ, suc, ◌+◌, ◌-◌, ◌%◌, ◌^◌, ◌<◌, ◌==◌, Bool, true, false, List, [], ◌∷◌, ◌++◌, Some, length, map, if◌then◌else◌, nat_eq, slice_get, slice_set, slice_index, refl, ap, sym, subst, ◌∙◌, arith}
 use Rattle.std.proofs.lemmas.Bool.Decides.{nat_tests}
 use Rattle.std.proofs.lemmas.List.{length-map}

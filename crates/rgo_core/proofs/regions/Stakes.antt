@@ -1,4 +1,5 @@
--- Duties that change the count of a region, by what they do to a holder.
+-- Duties that change the count of a region, by what they do to a holder. The laws of frames name the region, and memory's premises are read
+-- off the same duty.
 use Rattle.std.proofs.Common.{◌≡◌, ◌≢◌, inl, inr, ℕ, Bool, true, false, List, ◌∷◌, Option, Some, None, nat_eq, if◌then◌else◌, slice_get, refl, ap, subst, ◌∙◌, arith}
 use Rattle.std.proofs.lemmas.Bool.Decides.{nat_tests}
 use Rattle.std.proofs.lemmas.Option.{same_Some}
@@ -41,7 +42,7 @@ removal_share : (s : RegionState) (h : Holder) (j : ℕ) → guards h.base h.env
     → share_of_removal s h (Numbered j) ≡ share_of_last (slice_get s.regions j)
 removal_share s h j e = ap (λ (b : Bool). if b then no_share else share_of_last (slice_get s.regions j)) e
 
--- the duty ends the stake, and the region is counted as removed where it was the last
+-- the duty ends the stake, and the region is counted as removed if it was the last
 pub record EndsStake (s : RegionState) (h : Holder) (duty : Duty) (others : List Duty) (j : ℕ) : Type 0 where
   pub leaves : Leaves h j
   pub share : share_of_duty s (record h { duties = others }) duty ≡ share_of_last (slice_get s.regions j)
@@ -129,4 +130,4 @@ shares_stake s h (Share n) others j k owed e =
     let y = shared_is (record h { duties = others }) x.0 j k x.2 in
     record { name = n; owed = owed; named = x.1 ∙ ap Some y.0; fresh = y.1; share = refl }
 
--- ---- what lives
+-- ---- live regions

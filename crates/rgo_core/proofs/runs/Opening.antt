@@ -1,4 +1,5 @@
--- The run without a step explains the words of a new table and the record of `main`.
+-- The run without a step explains the words of a new table and the record of `main`. Each part opens by the law of its crate, and all of
+-- them agree on the first words.
 use Rattle.std.proofs.Common.{◌≡◌, ℕ, zero, suc, ◌<◌, ◌≤◌, ◌&&◌, nat_le, Bool, true, false, List, [], ◌∷◌, Some, None, length, map, replicate, take, slice_get, slice_set, slice_index, if◌then◌else◌, bytes_eq, codes, max, refl, ap, sym, subst, ◌∙◌, arith}
 use Rattle.std.proofs.lemmas.Bool.Decides.{nat_tests}
 use Rattle.std.proofs.lemmas.Grind.{common_steps}
@@ -58,7 +59,7 @@ module _ (z : TableSizes) where
 
 -- ---- `main`
 
--- where the machine begins, and where the record does
+-- the first frames of the machine, and of the record
 pub record Begins (fns : List CodeFn) (n : ℕ) : Type 0 where
   pub number : ℕ
   pub main : CodeFn
@@ -224,7 +225,7 @@ opening_law T checked written constants capped = (
   },
 )
 
--- the same where the code of the setup is that code
+-- the same if the code of the setup is that code
 pub opens_by : (T : Setup) (code : Code) → T.code ≡ code → IsChecked code → Ascends code → ConstantsFit code
     → most_goroutines T.limits ≤ 1000000 → Core T (opening_table T) (first_of T.code ∷ []) []
 opens_by T code same checked written constants capped =

@@ -1,4 +1,4 @@
--- Which records are possible.
+-- Which records are possible: what the rule keeps of a record (`Occurs`) is a table of this core.
 use Rattle.std.proofs.Common.{ℕ, [], ◌∷◌, refl, arith}
 use Rattle.rgo_core_rule.specs.Steps.{Occurs}
 use Rattle.rgo_core_rule.proofs.Occurring.{still_occurs}

@@ -1,4 +1,4 @@
--- Runs within the limits that grow by an event.
+-- Runs within the limits that grow by an event. A beginning of the shorter run is one of the longer run, so prints and ends are kept.
 use Rattle.std.proofs.Common.{◌≡◌, ℕ, Bool, false, true, List, [], ◌∷◌, ◌++◌, Option, Some, None, if◌then◌else◌, option_and_then, refl, ap, sym, ◌∙◌, append_assoc}
 use Rattle.std.proofs.lemmas.List.{append-nil}
 use Rattle.std.proofs.lemmas.Option.{same_Some}

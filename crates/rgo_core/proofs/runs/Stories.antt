@@ -1,4 +1,5 @@
--- The run behind a table's words, after each kind of step.
+-- The run that explains a table's words, after each kind of step. The kinds differ in the clock and the numbers; the run, its room and the
+-- counts grow in the same way for all.
 use Rattle.std.proofs.Common.{◌≡◌, ℕ, suc, ◌+◌, ◌%◌, ◌^◌, ◌<◌, ◌≤◌, Bool, true, false, List, [], ◌∷◌, ◌++◌, Option, Some, None, length, take, if◌then◌else◌, slice_get, slice_set, slice_index, bit_or, refl, ap, sym, subst, ◌∙◌, arith, length-append}
 use Rattle.std.proofs.lemmas.List.{take_all}
 use Rattle.std.proofs.lemmas.Option.{same_Some}
@@ -29,7 +30,7 @@ use Rattle.rgo_core.proofs.Lists.{take_before, word_new, word_same}
 use Rattle.rgo_core.proofs.goroutines.Numbers.{numbers_child, numbers_refused, numbers_same}
 use Rattle.rgo_core.proofs.runs.Runs.{marked_more, marked_now, printed_more, printed_whole, run_then, step_within}
 
--- there are no more records than goroutines may start
+-- there are at most as many records as goroutines may start
 pub few : (limit drawn : ℕ) (recs : List ClockRec) → Numbers limit drawn recs → length recs ≤ limit
 few limit drawn recs k = dite (dec_le drawn limit) (λ h. let z = k.low h in omega arith) (λ h. let z = k.high (omega arith) in omega arith)
 

@@ -1,4 +1,4 @@
--- A step of one goroutine that changes no memory, by an access to a word before the cells.
+-- A step of one goroutine that changes no memory, by an access to a word before the cells. It serves all duties and prints.
 use Rattle.std.proofs.Common.{◌≡◌, inl, ℕ, ◌<◌, ◌≤◌, true, List, Some, None, length, map, slice_get, slice_set, refl, ap, sym, subst, ◌∙◌, arith}
 use Rattle.std.proofs.Math.ListN.{length-set}
 use Rattle.std.proofs.lemmas.List.{append-nil}

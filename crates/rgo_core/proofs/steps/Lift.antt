@@ -1,4 +1,5 @@
--- From a step at a state to a step of the rule.
+-- From a step at a state to a step of the rule. Once for all kinds: the run gets the event, the limits follow from the records, since the
+-- machine has as many frames as they have, and the counts from the share of the one that acts.
 use Rattle.std.proofs.Common.{◌≡◌, ◌≢◌, ⊎_elim, ℕ, zero, suc, ◌<◌, ◌≤◌, nat_le, ◌&&◌, Bool, true, false, List, [], ◌∷◌, ◌++◌, Some, length, map, slice_get, slice_set, slice_index, refl, ap, sym, subst, ◌∙◌, arith}
 use Rattle.std.proofs.lemmas.Bool.Decides.{nat_tests}
 use Rattle.std.proofs.lemmas.List.{append-nil, length-map}
@@ -28,7 +29,7 @@ use Rattle.rgo_core.specs.runs.Story.{Story}
 use Rattle.rgo_core.proofs.Lists.{get_of, word_same}
 use Rattle.rgo_core.proofs.runs.Stories.{few, story_does, story_stays}
 
--- ---- as many frames as the records have
+-- ---- the machine has as many frames as the records
 
 module _ (code : Code) (slot_of : ℕ → ℕ) (addresses : List ℕ) where
   callers_long : (frames : List TacFrame) (ws : List WordFrame) → CallersShow code addresses frames ws → length frames ≡ length ws
@@ -173,14 +174,14 @@ module _ {T : Setup} {g : ℕ} {c : Record} (x : Situation T g c) where
 
 -- ---- a move of the rule
 
--- what a goroutine does that finds a number on a word
+-- the step of a goroutine that finds a number on a word
 pub record Reaches {T : Setup} {g : ℕ} {c : Record} (x : Situation T g c) (i : ℕ) (f : ℕ → ℕ) (tells : ℕ → Record → Type 0) : Type 0 where
   pub after : Record
   pub more : accesses after ≡ suc (accesses c)
   pub steps : Steps x (slice_set x.words i (f (slice_index x.words i))) after
   pub tells_so : tells (slice_index x.words i) after
 
--- its record afterwards may be told by more than what was found
+-- its record afterwards may depend on more than what was found
 pub told_law : (T : Setup) (g : ℕ) (c : Record) (i : ℕ) (f : ℕ → ℕ) (tells : ℕ → Record → Type 0)
     → ((x : Situation T g c) → 32 ≤ i) → ((x : Situation T g c) → slice_index x.words i < 18446744073709551616 → Reaches x i f tells) → Moves T g c i f tells
 told_law T g c i f tells low finds words recs run core at fits =
@@ -210,7 +211,7 @@ told_law T g c i f tells low finds words recs run core at fits =
     })
     r.steps
 
--- the record after it is told by what was found, and something more of that by the state
+-- the record after it depends on what was found, and more is known of that by the state
 pub moves_by : (T : Setup) (g : ℕ) (c : Record) (i : ℕ) (f : ℕ → ℕ) (after : ℕ → Record) (tells : ℕ → Record → Type 0)
     → ((n : ℕ) → accesses (after n) ≡ suc (accesses c)) → ((x : Situation T g c) → 32 ≤ i)
     → FindsWord T g c i (λ x n. Steps x (slice_set x.words i (f n)) (after n))

@@ -1,4 +1,5 @@
--- A local instruction or duty of the record is one of the region machine, and needs no access.
+-- A local instruction or duty of the record is one of the region machine, and needs no access. The law of frames has the step. It is left
+-- to show that words, memory and channels stay, and what is counted.
 use Rattle.std.proofs.Common.{◌≡◌, inr, ℕ, zero, suc, ◌+◌, ◌≤◌, Bool, true, false, List, [], ◌∷◌, Option, Some, None, if◌then◌else◌, option_map, option_and_then, length, map, slice_get, slice_set, slice_index, bit_or, refl, ap, sym, subst, ◌∙◌, arith}
 use Rattle.std.proofs.lemmas.Option.{same_Some}
 use Rattle.rgo_sound.specs.Code.Code.{Branch, Call, Code, CodeInstr, CodeOp, Do, Go, Jump, Print, Return}
@@ -48,7 +49,7 @@ use Rattle.rgo_core.proofs.steps.Staying.{image_stays}
 use Rattle.rgo_core.proofs.pages.Unreserved.{adds_nothing}
 use Rattle.rgo_core.proofs.accesses.Links.{Advances, CountsOne, IsElsewhere, Keeps, all_kept, as_much, has_duty, links_low, links_same, one_later, owing_none}
 
--- ---- what a quiet step of a record is
+-- ---- the quiet step of a record
 
 pub quiet_is : (code : Code) (g : ℕ) (c e : FrameRec) → quiet code g c ≡ Some e → (local code c ≡ Some e) × (is_exit g e.frames ≡ false)
 quiet_is code g c e q = go (local code c) q
@@ -75,7 +76,7 @@ marked_exit : (m : Option Mark) → mark_with_end m (Some Exit) ≡ first_mark m
 marked_exit None = refl
 marked_exit (Some m) = refl
 
--- which instruction it is: none that starts a goroutine
+-- its instruction: none that starts a goroutine
 pub record IsLocal (code : Code) (c : FrameRec) : Type 0 where
   pub w : WordFrame
   pub ws : List WordFrame
@@ -110,7 +111,7 @@ is_local code c e loc none = frames c.frames refl (sym (ap (local_by code c) non
     frames [] is q = cc
     frames (w ∷ ws) is q = instr w ws is (current code (bare w)) refl q
 
--- ---- what it is in the machine
+-- ---- the step of the machine
 
 abbrev pub instructions : List Duty → ℕ
 instructions [] = 1
@@ -132,7 +133,7 @@ module _ {T : Setup} {g : ℕ} {c : Record} (x : Situation T g c) (rest : c.side
   abbrev places : Rattle.rgo_core_memory.specs.Image.Where
   places = x.core.image.places
 
-  -- no offer of its stands
+  -- it has no offer
   may : (h : Holder) → slice_get x.s.holders g ≡ Some h → may_go h.offer ≡ true
   may h there = ap may_go (x.core.image.channels.calm g c.side h (side_at x) there (ap (λ (r : SideRec). r.post) rest))
 
@@ -176,7 +177,7 @@ module _ {T : Setup} {g : ℕ} {c : Record} (x : Situation T g c) (rest : c.side
   local_keeps [] = all_kept refl refl refl refl
   local_keeps (d ∷ l) = all_kept refl refl refl refl
 
-  -- where it owes nothing, it makes no object
+  -- if it owes nothing, it makes no object
   nothing_made : region_step T.code T.sizes.page_words x.s (Instruct (One g)) ≡ Some p.state → c.memory.reserved.pages ≡ []
   nothing_made step = adds_nothing x p.state step (ap (λ (m : Heap). length m.heap) p.same.memory)
 

@@ -1,4 +1,5 @@
--- What the operands of a record's next instruction are, by the types of checked code; and an action that makes no object.
+-- The operands of a record's next instruction, by the types of checked code; and an action that makes no object. A word is read as its type
+-- says, and a pointer leads to one live object.
 use Rattle.std.proofs.Common.{◌≡◌, ℕ, suc, ◌+◌, ◌<◌, ◌^◌, w64, false, true, List, [], ◌∷◌, ◌++◌, Option, Some, length, map, slice_get, slice_set, slice_index, ap, sym, subst, ◌∙◌, arith, append-nil, Contains}
 use Rattle.std.specs.Int.{cast_signed}
 use Rattle.rgo_sound.specs.Code.Code.{CodeOp, Do}
@@ -120,7 +121,7 @@ module _ {T : Setup} {g : ℕ} {c : Record} (x : Situation T g c) (to : Option �
         → IsLiveObject x.s.plain.memory.heap x.s.owners x.s.regions to_it.object object to_it.region
     stands object e = record { there = e; owner = to_it.owner; live = live }
 
-    -- its words in the table, where it fits a page
+    -- its words in the table, if it fits a page
     pub word_there : (object : Object) → slice_get x.s.plain.memory.heap to_it.object ≡ Some object
         → is_spread T.sizes.page_words object ≡ false → (k : ℕ) → k < words_of object
         → word_at (layout T) (I x).places to_it.object k ≡ base (layout T) + (at + k)
@@ -128,7 +129,7 @@ module _ {T : Setup} {g : ℕ} {c : Record} (x : Situation T g c) (to : Option �
         (follow (layout T) x.words (map memory_of x.recs) x.s (I x).places (I x).memory to_it.object k object to_it.region (stands object e) whole low).0
         ∙ ap (λ n. base (layout T) + (n + k)) (sym ((I x).addressed to_it.object at to_it.at))
 
-    -- and those before its cells, where it need not
+    -- and those before its cells, whether it does or not
     pub word_before : (object : Object) → slice_get x.s.plain.memory.heap to_it.object ≡ Some object → (k : ℕ) → k < words_before object
         → word_at (layout T) (I x).places to_it.object k ≡ base (layout T) + (at + k)
     word_before object e k low = split (is_spread T.sizes.page_words object)
@@ -136,7 +137,7 @@ module _ {T : Setup} {g : ℕ} {c : Record} (x : Situation T g c) (to : Option �
         ∙ ap (λ n. base (layout T) + (n + k)) (sym ((I x).addressed to_it.object at to_it.at)))
         (λ whole. word_there object e whole k (omega (arith, low)))
 
-    -- a word that holds a value shows it
+    -- a word of a value shows it
     pub found_shows : (object : Object) → slice_get x.s.plain.memory.heap to_it.object ≡ Some object → (k : ℕ) (v : Value)
         → content object k ≡ Some v
         → Shows (I x).addresses v (slice_index x.words (word_at (layout T) (I x).places to_it.object k))
@@ -167,6 +168,6 @@ module _ {T : Setup} {g : ℕ} {c : Record} (x : Situation T g c) (to : Option �
       (subst (λ l. ObjectsDiffer l x.s.regions (x.s.owners ++ [])) (sym (append-nil (I x).addresses))
       (subst (ObjectsDiffer (I x).addresses x.s.regions) (sym (append-nil x.s.owners)) (I x).frames.addresses_differ)))
 
-  -- as many frames as before
+  -- equally many frames as before
   pub as_deep : (word : ℕ) → length (after_action T.code c.frame a.w a.ws a.instr to word).frames ≡ length c.frame.frames
   as_deep word = ap length (sym a.frames)

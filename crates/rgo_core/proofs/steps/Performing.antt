@@ -1,4 +1,5 @@
--- Instructions of one goroutine, by an access or without one, that make no object and leave the channels.
+-- Instructions of one goroutine, by an access or without one, that make no object and leave the channels. Frames and memory come as
+-- premises. Channels stay, since no word of one was written and no region was removed.
 use Rattle.std.proofs.Common.{◌≡◌, inl, ℕ, ◌+◌, ◌<◌, List, [], Some, None, length, map, slice_get, slice_set, slice_index, refl, ap, sym, subst, ◌∙◌, arith}
 use Rattle.std.proofs.lemmas.List.{append-nil}
 use Rattle.rgo_sound.specs.Machine.declared.picks.Pick.TheVariants.{One}
@@ -86,7 +87,7 @@ module _ {T : Setup} {g : ℕ} {c : Record} (x : Situation T g c) (rests : c.sid
         one_fresh = λ o p k l n m. absurd n;
       }
 
-  -- what is left after so many accesses
+  -- what is left after that many accesses
   pub performs : (n : ℕ) → length mem.heap ≡ length x.s.plain.memory.heap → length e.frames ≡ length c.frame.frames
       → StateImage (layout T) words (map memory_of x.recs) t (I x).places
       → ChannelsIn T.code (layout T) (I x).places words

@@ -1,4 +1,4 @@
--- The image after a step of one goroutine that leaves memory, owners and regions.
+-- The image after a step of one goroutine that leaves memory, owners and regions: the three images, each by its law for steps elsewhere.
 use Rattle.std.proofs.Common.{◌≡◌, inl, ℕ, ◌+◌, ◌≤◌, List, ◌++◌, Some, None, length, map, replicate, slice_get, slice_set, refl, ap, sym, subst, ◌∙◌, arith}
 use Rattle.std.proofs.lemmas.List.{append-nil}
 use Rattle.std.proofs.lemmas.Option.{slice_get_within}
@@ -24,7 +24,7 @@ use Rattle.rgo_core.proofs.image.Standing.{memory_at, side_at}
 use Rattle.rgo_core.specs.ties.Moments.{moment}
 use Rattle.rgo_core.proofs.channel_steps.Leaving.{touch_same}
 
--- channels and what records know of them, where so many goroutines have started
+-- channels and what records know of them, if `children` goroutines have started
 module _ {T : Setup} {g : ℕ} {c : Record} (x : Situation T g c) (event : Event) (t : RegionState)
     (step : region_step T.code T.sizes.page_words x.s event ≡ Some t) (alone : ActsAlone event g) (rest : c.side ≡ at_rest)
     (memory : t.plain.memory ≡ x.s.plain.memory) (owners : t.owners ≡ x.s.owners) (regions : t.regions ≡ x.s.regions) where
@@ -56,7 +56,7 @@ module _ {T : Setup} {g : ℕ} {c : Record} (x : Situation T g c) (event : Event
         one_fresh = λ o p k l n m. absurd n;
       })
 
-  -- nobody has started
+  -- no goroutine has started
   module _ (d : Record) (same_memory : d.memory ≡ c.memory) (same_side : d.side ≡ c.side)
       (fit : RecordsFit T.code x.core.image.places.slot x.core.image.addresses t (slice_set (map frame_of x.recs) g d.frame))
       (shown : StateImage (layout T) x.words (map memory_of x.recs) t x.core.image.places) where

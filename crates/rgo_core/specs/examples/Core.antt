@@ -76,7 +76,7 @@ pub record NumberExamples : Type 0 where
   pub owes : (counted (record blank { owed = 3 })).returned ≡ 3
 
 pub record CauseExamples : Type 0 where
-  -- memory may run out at any time; regions only where one is wanted
+  -- memory may run out at any time; regions only if one is needed
   pub memory : (code : Code) (sizes : Sizes) (limits : Limits) (s : RegionState) → IsCause code sizes limits (Stopped Memory) s
   pub regions : (code : Code) (sizes : Sizes) (limits : Limits) (s : RegionState) → s.holders ≡ []
       → IsCause code sizes limits (Stopped Regions) s → ⊥
@@ -92,6 +92,6 @@ pub record TableRoomExamples : Type 0 where
   pub none_yet : (T : Setup) → Story T.code T.sizes T.limits (opening_table T) (fresh ∷ []) [] (region_start T.code)
   -- more pages are in use, or more regions live, than there may be
   pub crowded : (T : Setup) (words : List ℕ) (recs : List Record) (events : List Event) (k : Core T words recs events) → (StateFitsIn T.sizes k.0 → ⊥) → ⊥
-  -- a page is taken where none is left
+  -- a page is taken although none is left
   pub none_left : (T : Setup) (g : ℕ) (c d : Record) (x : Situation T g c) (words : List ℕ) (recs : List Record) (p : MakesRegionStep x words recs d)
       → p.event ≡ TakePage g → T.sizes.pages ≤ pages_in_use x.s → ⊥

@@ -61,7 +61,7 @@ pub record LinkExamples : Type 0 where
   -- the slice still has the length, or it has not
   pub knows : StillMeasured loading_code tiny (with_length 4) knowing four_measured
   pub changed : StillMeasured loading_code tiny (with_length 5) knowing four_measured → ⊥
-  -- once the goroutine has continued, this says nothing
+  -- after the goroutine has continued, nothing is required
   pub gone : StillMeasured loading_code tiny (with_length 5) later four_measured
   -- two pages are claimed for slot 0
   pub left : left_to_free tiny filled_words (Owes 0) ≡ 2

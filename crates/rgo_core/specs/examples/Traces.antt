@@ -31,7 +31,7 @@ first_records = record (begins_with no_record) { clock = fresh } ∷ []
 
 -- ---- prints
 
--- a print of these bytes, and the end, both as the laws of the clock say
+-- a print of these bytes, and the end, both by the laws of the clock
 abbrev pub prints_these : List ℕ → Step
 prints_these bytes = record {
   by = 0;
@@ -211,7 +211,7 @@ sides_in (c ∷ cs) = c.side ∷ sides_in cs
 abbrev pub buffer_words : List ℕ
 buffer_words = 0 ∷ 3 ∷ 0 ∷ 0 ∷ 0 ∷ []
 
--- a value is sent where the control is n, and the oldest is received
+-- a value is sent when the control is n, and the oldest is received
 abbrev pub sending_trace : (control x : ℕ) → List Step
 sending_trace n x = locks_it 0 n ∷ stores_cell 0 n ((head_of n + count_of n) % 3) x ∷ commits 0 (n + 4) at_rest ∷ []
 

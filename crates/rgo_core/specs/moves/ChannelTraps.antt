@@ -1,4 +1,5 @@
--- Traps at channels: what a goroutine has found of a channel makes its operation end the run.
+-- Traps at channels: what a goroutine has found of a channel makes its operation end the run. What it has found stays true, so the access
+-- to the clock may come any time later.
 use Rattle.std.specs.Prelude.{◌≡◌, ◌^◌, ℕ, bit_or, List, [], ◌∷◌, Option}
 use Rattle.rgo_sound.specs.Code.Code.{Do}
 use Rattle.rgo_core_channels.specs.Records.{Shut, Stranded}
@@ -39,7 +40,7 @@ CloseNilMove = (T : Setup) (g : ℕ) (c : Record) (to : Option ℕ) (channel : �
     (a : IsAtOp T.code c (Do to Close (channel ∷ []) removes)) → frame_word a.w channel ≡ 0
     → Moves T g c clock_at (λ n. bit_or n (2 ^ 63)) (λ n d. d ≡ trapped_record c n CloseNil a.instr.place)
 
--- a send whose offer is at a channel that was found closed
+-- A send whose offer is at a channel that was found closed. If it had been taken before the close, the sender would have found phase 2.
 abbrev pub StrandedMove : Type 0
 StrandedMove = (T : Setup) (g : ℕ) (c : Record) (at : ℕ) (a : IsAtSend T c) → c.side.saw ≡ Stranded at
     → Moves T g c clock_at (λ n. bit_or n (2 ^ 63)) (λ n d. d ≡ trapped_record c n SendClosed a.instr.place)

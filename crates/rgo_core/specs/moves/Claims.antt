@@ -1,4 +1,5 @@
--- The exchange that claims a page.
+-- The exchange that claims a page. Any goroutine that makes an object next may make it, on any page; if two try the same page, one
+-- finds 0. What was found decides, so a law has both outcomes.
 use Rattle.std.specs.Prelude.{◌≡◌, ◌+◌, ◌<◌, ◌≤◌, ◌==◌, ℕ, suc, false, true, List, length, Option, Some, if◌then◌else◌}
 use Rattle.rgo_sound.specs.Code.Code.{Do}
 use Rattle.rgo_sound.specs.Memory.Memory.{Object}
@@ -33,7 +34,7 @@ reserves c p s = record c {
 }
 
 -- A page that is free is claimed for the region in which the next instruction makes an object that fits a page, but not what is left of
--- the own page there. One that is not free is remembered.
+-- the own page there. One that is not free is remembered. The last claim must be linked before (`Idle`), since a record keeps one.
 abbrev pub ClaimMove : Type 0
 ClaimMove = (T : Setup) (g : ℕ) (c : Record) (to : Option ℕ) (act : Action) (from removes : List ℕ)
     (a : IsAtOp T.code c (Do to act from removes)) (object : Object) (by_slot : Region) (p : ℕ) → c.side ≡ at_rest
@@ -45,7 +46,7 @@ ClaimMove = (T : Setup) (g : ℕ) (c : Record) (to : Option ℕ) (act : Action) 
     → Moves T g c (state_at (layout T) p) (λ n. if n == 0 then suc (slot_number (layout T) by_slot) else n)
     (λ n d. d ≡ (if n == 0 then claims c p (slot_number (layout T) by_slot) else remembers c (with_tried_page c.memory p)))
 
--- A page that is free is claimed for a spread object, which is not too large and has not all of its pages. One that is
+-- A page that is free is claimed for a spread object, which is not too large and does not have all of its pages. One that is
 -- not free is remembered.
 abbrev pub ReserveMove : Type 0
 ReserveMove = (T : Setup) (g : ℕ) (c : Record) (to : Option ℕ) (act : Action) (from removes : List ℕ)

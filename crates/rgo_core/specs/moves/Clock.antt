@@ -1,4 +1,5 @@
--- Steps on the clock and on the number of goroutines: prints, ends and starts.
+-- Steps on the clock and on the number of goroutines: prints, ends and starts. These words are shared by all goroutines, and each access
+-- to them is an addition or an `or`, which cannot fail.
 use Rattle.std.specs.Prelude.{◌≡◌, ◌<◌, ◌≤◌, ◌+◌, ◌%◌, ◌^◌, ℕ, suc, bit_or, false, if◌then◌else◌, List, [], ◌∷◌, ◌++◌, length, Option, Some, None, slice_index, slice_set}
 use Rattle.rgo_core_memory.specs.Words.{clock_at, made_at}
 use Rattle.rgo_sound.specs.Machine.Limits.{deepest, most_goroutines}
@@ -14,7 +15,7 @@ abbrev pub first_mark : Option Mark → Mark → Option Mark
 first_mark None mark = Some mark
 first_mark (Some first) mark = Some first
 
--- whose record has set it, where the clock was n
+-- the mark that a record has set, after an end for which the clock was n
 abbrev pub first_set : (clock : ℕ) → Option Mark → Mark → Option Mark
 first_set n first mark = if has_ended n then first else Some mark
 
@@ -33,11 +34,12 @@ module _ {T : Setup} {g : ℕ} {c : Record} (x : Situation T g c) where
     pub mark : goes.next.mark ≡ x.s.mark
     pub printed : goes.next.plain.printed ≡ printed_if x.s.mark x.s.plain.printed (x.s.plain.printed ++ bytes)
 
-  -- it ends the run next, if the run has not ended
+  -- It ends the run next, if the run has not ended. The cause is required only then: a later end changes nothing.
   pub record EndsRunNext (mark : Mark) (d : Record) : Type 0 where
     pub goes : MakesRegionStep x (slice_set x.words clock_at (bit_or (slice_index x.words clock_at) 9223372036854775808)) (slice_set x.recs g d) d
     pub marked : goes.next.mark ≡ first_mark x.s.mark mark
     pub printed : goes.next.plain.printed ≡ x.s.plain.printed
+    -- the run's end is then claimed with this cause, in this state
     pub cause : x.s.mark ≡ None → IsCause T.code T.sizes T.limits mark x.s
 
   -- it starts another one next
@@ -47,14 +49,15 @@ module _ {T : Setup} {g : ℕ} {c : Record} (x : Situation T g c) where
     pub printed : goes.next.plain.printed ≡ x.s.plain.printed
     pub shallow : length child.frame.frames ≤ deepest
 
--- a print draws a ticket
+-- A print draws a ticket. The bound on prints keeps tickets below 2^63, so that they never reach the bit of the end.
 abbrev pub TicketLaw : Type 0
 TicketLaw = (T : Setup) (g : ℕ) (c : Record) (bytes : List ℕ) (after : ℕ → Record) → length c.clock.prints < 2 ^ 43
     → ((n : ℕ) → (after n).clock ≡ with_print c.clock n bytes)
     → FindsWord T g c clock_at (λ x n. Prints x bytes (after n))
     → Moves T g c clock_at (λ n. (n + 1) % 2 ^ 64) (λ n d. d ≡ after n)
 
--- the end of a run is set in the clock; the first one is kept
+-- The end of a run is set in the clock; the first one is kept. An `or`, and not an exchange, which would fail whenever a print comes
+-- between.
 abbrev pub RunEndLaw : Type 0
 RunEndLaw = (T : Setup) (g : ℕ) (c : Record) (mark : Mark) (after : ℕ → Record)
     → ((n : ℕ) → ClockHasEnded c.clock n mark (after n).clock)
@@ -66,7 +69,8 @@ abbrev pub LookLaw : Type 0
 LookLaw = (T : Setup) (g : ℕ) (c : Record)
     → Moves T g c clock_at (λ n. n) (λ n d. d ≡ looked c)
 
--- a number is drawn, and a goroutine starts, or there are as many as there may be
+-- A number is drawn, and a goroutine starts, or there are as many as there may be. A goroutine draws no further number after a refusal,
+-- so the word stays small.
 abbrev pub NumberLaw : Type 0
 NumberLaw = (T : Setup) (g : ℕ) (c : Record) (after child : ℕ → Record) → c.clock.refused ≡ false
     → ((n : ℕ) → (after n).clock ≡ with_child c.clock n) → ((n : ℕ) → (child n).clock ≡ blank)

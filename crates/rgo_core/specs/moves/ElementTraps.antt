@@ -1,4 +1,5 @@
--- Accesses to elements that trap: the slice is nil, or the index is not within the length that was read.
+-- Accesses to elements that trap: the slice is nil, or the index is not within the length that was read. The trap is an access to the
+-- clock. That the length was read earlier does not matter: it is still the slice's.
 use Rattle.std.specs.Prelude.{◌≡◌, ◌⊎◌, ◌^◌, ◌≤◌, ℕ, bit_or, suc, List, [], ◌∷◌, Some, None}
 use Rattle.rgo_sound.specs.Code.Code.{Do}
 use Rattle.rgo_core_channels.specs.Records.{at_rest}
@@ -13,7 +14,7 @@ use Rattle.rgo_core.specs.Records.{Record, steps_of}
 use Rattle.rgo_core.specs.Steps.{Moves}
 use Rattle.rgo_core.specs.moves.ChannelTraps.{trapped_record}
 
--- the length of the slice at this address is known, and the index is none of an element
+-- the length of the slice at this address is known, and the index is not that of an element
 pub record IsOutside (c : Record) (address index : ℕ) : Type 0 where
   pub measured : Measured
   pub read : c.memory.measured ≡ Some measured
@@ -25,7 +26,7 @@ pub record IsOutside (c : Record) (address index : ℕ) : Type 0 where
 abbrev pub HasNoElement : Record → WordFrame → (p q : ℕ) → Type 0
 HasNoElement c w p q = (frame_word w p ≡ 0) ⊎ ((address : ℕ) × (frame_word w p ≡ suc address) × IsOutside c address (frame_word w q))
 
--- a load of an element that there is not
+-- a load of an element that does not exist
 abbrev pub AtTrapMove : Type 0
 AtTrapMove = (T : Setup) (g : ℕ) (c : Record) (d p q : ℕ) (removes : List ℕ)
     (a : IsAtOp T.code c (Do (Some d) action.At (p ∷ q ∷ []) removes)) → c.side ≡ at_rest → HasNoElement c a.w p q

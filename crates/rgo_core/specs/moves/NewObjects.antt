@@ -1,4 +1,6 @@
--- A new object: which one a goroutine's next instruction makes, by its record, and the record after the stores of its words.
+-- A new object: which one a goroutine's next instruction makes, by its record, and the record after the stores of its words. No other
+-- goroutine can reach the words before the last store, since no pointer leads to them. So their order is free, and the goroutine may
+-- be stopped between any two.
 use Rattle.std.specs.Prelude.{◌≡◌, ℕ, suc, ◌+◌, ◌*◌, ◌<◌, ◌^◌, bit_or, false, true, List, [], ◌∷◌, map, replicate, Option, Some, slice_get, slice_index}
 use Rattle.rgo_sound.specs.Code.Code.{Code, CodeOp, Do}
 use Rattle.rgo_sound.specs.Code.Erasure.{erased}
@@ -38,7 +40,7 @@ pub data ObjectOf (most : ℕ) (code : Code) (w : WordFrame) (to : Option ℕ) (
   AChannel : (p : ℕ) → act ≡ action.Chan → from ≡ p ∷ [] → frame_word w p < most
       → object ≡ Channel (frame_word w p) [] false → ObjectOf most code w to act from object
 
--- The control of a channel counts fewer values than this. Where a page has fewer words, every object that fits a page is one of these.
+-- The control of a channel counts fewer values than this. If a page has fewer words, every object that fits a page is one of these.
 abbrev pub MakesObject : Code → WordFrame → Option ℕ → Action → List ℕ → Object → Type 0
 MakesObject = ObjectOf 1073741820
 
@@ -71,8 +73,8 @@ WordMoveApart = (T : Setup) (g : ℕ) (c : Record) (object : Object) (stored : L
     → Moves T g c (word_apart T c object i) (λ n. spread_opening object c.memory.reserved.pages i)
     (λ n d. d ≡ record c { clock = accessed c.clock; memory = with_word_apart c.memory object (i ∷ stored) })
 
--- The last of its words is stored: this is the instruction. All words of the object lie in the pages, and the pointer to it points where
--- it may.
+-- The last of its words is stored: this is the instruction. All words of the object are in the pages, and so the pointer to it points into
+-- them. Which word is last does not matter: the premise is that all others are stored.
 abbrev pub ObjectMove : Type 0
 ObjectMove = (T : Setup) (g : ℕ) (c : Record) (to : Option ℕ) (act : Action) (from removes : List ℕ)
     (a : IsAtOp T.code c (Do to act from removes)) (object : Object) (by_slot : Region) (f : Fill) (stored : List ℕ) (last : ℕ)

@@ -1,4 +1,5 @@
--- Traps that follow from the operands of an instruction: a field of nil, a division by zero, a negative size.
+-- Traps that follow from the operands of an instruction: a field of nil, a division by zero, a negative size. The operands are words of
+-- the goroutine's own frame, so nothing can change before the access to the clock.
 use Rattle.std.specs.Prelude.{◌≡◌, ◌⊎◌, ◌^◌, ◌≤◌, ℕ, bit_or, List, [], ◌∷◌, Some, None}
 use Rattle.rgo_sound.specs.Ast.declared.ops.BinaryOp.{BinaryOp}
 use Rattle.rgo_sound.specs.Ast.declared.ops.BinaryOp.TheVariants.{Div, Rem}

@@ -1,4 +1,5 @@
--- Accesses to the counts of regions: a region is created, a stake is taken for a goroutine that is about to start, and a stake ends.
+-- Accesses to the counts of regions: a region is created, a stake is taken for a goroutine that is about to start, and a stake ends. Each
+-- is one access to one word, so any number of goroutines may make them at once. By what it finds a goroutine knows which was first.
 use Rattle.std.specs.Prelude.{◌≡◌, ◌≢◌, ◌⊎◌, ◌+◌, ◌-◌, ◌%◌, ◌^◌, ◌<◌, ◌==◌, ℕ, suc, false, List, ◌∷◌, Some, if◌then◌else◌}
 use Rattle.rgo_sound.specs.RegionMachine.States.{Create, Duty, Holder}
 use Rattle.rgo_sound.specs.Stakes.{is_in}
@@ -20,7 +21,8 @@ creates c k ds p = record c {
   frame = created_in c.frame k ds p;
 }
 
--- A slot that is free is taken for a new region, and the goroutine has no stake in a region of it; one that is not free is remembered.
+-- A slot that is free is taken for a new region, and the goroutine has no stake in a region of it; one that is not free is remembered. A
+-- slot whose chain is being returned has count 1, so it is not free.
 abbrev pub CreateMove : Type 0
 CreateMove = (T : Setup) (g : ℕ) (c : Record) (k p : ℕ) (ds : List Duty) → c.side ≡ at_rest
     → c.frame.holder.duties ≡ Create k ∷ ds → p < T.sizes.regions
@@ -32,7 +34,7 @@ CreateMove = (T : Setup) (g : ℕ) (c : Record) (k p : ℕ) (ds : List Duty) →
 abbrev pub with_holder : Record → Holder → Record
 with_holder c k = record c { clock = accessed c.clock; frame = record c.frame { holder = k } }
 
--- a stake is taken
+-- A stake is taken. The goroutine has one there itself, so the region cannot go before this access.
 abbrev pub ShareMove : Type 0
 ShareMove = (T : Setup) (g : ℕ) (c : Record) (d : Duty) (ds : List Duty) (p : ℕ) (k : Holder) → c.side ≡ at_rest
     → c.frame.holder.duties ≡ d ∷ ds → stake_shared (record c.frame.holder { duties = ds }) d ≡ Some (p, k)
@@ -42,7 +44,8 @@ ShareMove = (T : Setup) (g : ℕ) (c : Record) (d : Duty) (ds : List Duty) (p : 
 abbrev pub left_stake : Record → Holder → (slot : ℕ) → Record
 left_stake c k p = record (with_holder c k) { memory = without_slot c.memory p }
 
--- and of the last one, in a region of this many pages, which the record now has to free
+-- And of the last one, in a region of this many pages, which the record now has to free. Nobody has counted them in a word; the number is
+-- that of the claimed page states.
 abbrev pub leaves_last : Record → Holder → (slot pages : ℕ) → Record
 leaves_last c k p pages = record (with_holder c k) {
   clock = record (accessed c.clock) {
@@ -52,12 +55,14 @@ leaves_last c k p pages = record (with_holder c k) {
   memory = with_give (without_slot c.memory p) (Owes p);
 }
 
--- By the count that was found. A record that is about to free the pages of a region has no others to free.
+-- The record after the end of a stake, by the count that was found. A record that is about to free the pages of a region has no others to
+-- free.
 abbrev pub HasLeft : Record → Holder → (slot : ℕ) → (found : ℕ) → Record → Type 0
 HasLeft c k p n e =
     ((n ≢ 2) × (e ≡ left_stake c k p)) ⊎ ((n ≡ 2) × (c.clock.owed ≡ 0) × (pages : ℕ) × (e ≡ leaves_last c k p pages))
 
--- a stake ends; where it was the last, the region goes
+-- A stake ends; if it was the last, the region is removed. The record must be free of pages that are being claimed there and of half-made
+-- objects: after this access another goroutine may return the chain.
 abbrev pub LeaveMove : Type 0
 LeaveMove = (T : Setup) (g : ℕ) (c : Record) (d : Duty) (ds : List Duty) (p : ℕ) (k : Holder) → c.side ≡ at_rest
     → c.frame.holder.duties ≡ d ∷ ds → stake_ended (record c.frame.holder { duties = ds }) d ≡ Some (p, k)

@@ -1,4 +1,5 @@
--- Why a run may end in a state of the region machine.
+-- Why a run may end in a state of the region machine. The cause is required in the state at the mark, which no goroutine knows. So it must
+-- follow from the record of the one that sets the mark, in every state.
 use Rattle.rgo_sound.specs.Code.Code.{Code}
 use Rattle.rgo_sound.specs.Code.Erasure.{erased}
 use Rattle.rgo_sound.specs.Machine.Limits.{IsFull, IsCallTooDeep}
@@ -22,7 +23,7 @@ module _ (code : Code) (sizes : Sizes) (limits : Limits) where
   ReachesLimit limit.Goroutines s = IsFull (tac (erased code)) limits s.plain
   ReachesLimit limit.Memory s = Unit {0}
 
-  -- of an instruction that ends the run the instruction itself is the cause
+  -- If an instruction ends the run, it is itself the cause.
   abbrev pub IsCause : Mark → RegionState → Type 0
   IsCause (Ended end) s = Unit {0}
   IsCause (Stopped why) s = ReachesLimit why s

@@ -1,4 +1,5 @@
--- How a table opens: the record of `main`, and that the run without a step explains the first words.
+-- How a table opens: the record of `main`, and that the run without a step explains the first words. From here every later state of the
+-- table follows, access by access.
 use Rattle.std.specs.Prelude.{◌≤◌, ℕ, suc, List, [], ◌∷◌, bytes_eq, codes, if◌then◌else◌}
 use Rattle.rgo_sound.specs.Code.Checked.{IsChecked}
 use Rattle.rgo_sound.specs.Code.Code.{Code, CodeFn}

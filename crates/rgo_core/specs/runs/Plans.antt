@@ -1,4 +1,4 @@
--- What is fixed when a table opens, in the terms of the definitions.
+-- What is fixed when a table opens, in the terms of the definitions: every law has it as its first argument.
 use Rattle.rgo_core.specs.Core.{Setup}
 use Rattle.rgo_core.specs.declared.table.Plan.{Plan}
 

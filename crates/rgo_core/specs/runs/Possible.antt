@@ -1,4 +1,5 @@
--- Which records are possible: that of `main` as a table opens, and all that an access or a step without one leaves.
+-- Which records are possible: that of `main` as a table opens, and all that an access or a step without one leaves. Facts about possible
+-- records (rgo_core_facts) replace an invariant of the code's own data.
 use Rattle.std.specs.Prelude.{◌≤◌, ℕ}
 use Rattle.rgo_sound.specs.Code.Checked.{IsChecked}
 use Rattle.rgo_sound.specs.Code.NameRules.{Ascends}
@@ -14,7 +15,7 @@ abbrev pub FirstPossible : Type 0
 FirstPossible = (T : Setup) → IsChecked T.code → Ascends T.code → ConstantsFit T.code
     → most_goroutines T.limits ≤ 1000000 → IsPossible T 0 (first_of T.code)
 
--- what the rule of the table says of a record after an access
+-- what the rule of the table guarantees of a record after an access
 abbrev pub OccursPossible : Type 0
 OccursPossible = (T : Setup) (g : ℕ) (c : Record) → Occurs (Core T) g c → IsPossible T g c
 

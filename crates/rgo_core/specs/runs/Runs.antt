@@ -1,4 +1,5 @@
--- Runs of the region machine every state of which is within the limits of frames and goroutines, and beginnings of such runs.
+-- Runs of the region machine every state of which is within the limits of frames and goroutines, and beginnings of such runs. The machine
+-- itself has no limits. The claim about a run does, so the rule has to keep them.
 use Rattle.std.specs.Prelude.{◌≡◌, ℕ, List, ◌∷◌, ◌++◌, Option, Some, None, option_and_then, if◌then◌else◌}
 use Rattle.rgo_sound.specs.Code.Code.{Code}
 use Rattle.rgo_sound.specs.Machine.Limits.{is_within}
@@ -18,7 +19,8 @@ module _ (code : Code) (page_words : ℕ) (limits : Limits) where
   abbrev pub limited_run : List Event → Option RegionState
   limited_run events = run step_in_limits (region_start code) events
 
-  -- a beginning of the run that has printed these bytes and has not ended
+  -- A beginning of the run that has printed these bytes and has not ended. It names the run of a driver that ran out of memory, whose print
+  -- stops somewhere in the middle.
   pub record Printed (events : List Event) (bytes : List ℕ) : Type 0 where
     pub first : List Event
     pub rest : List Event
@@ -28,7 +30,8 @@ module _ (code : Code) (page_words : ℕ) (limits : Limits) where
     pub unmarked : state.mark ≡ None
     pub printed : state.plain.printed ≡ bytes
 
-  -- the step that ended the run after it had printed these bytes; the cause of the end held before it
+  -- The step that ended the run after it had printed these bytes; the cause of the end held before it. Steps may follow: other goroutines
+  -- run until they look at the clock.
   pub record Marked (Cause : Mark → RegionState → Type 0) (events : List Event) (mark : Mark) (bytes : List ℕ) : Type 0 where
     pub first : List Event
     pub event : Event

@@ -1,4 +1,5 @@
--- Accesses in a row: the words after each of them, and the records at the end.
+-- Accesses in a row: the words after each of them, and the records at the end. It is a small simulator of the table, on which the laws'
+-- words and records can be computed and compared by eye.
 use Rattle.std.specs.Prelude.{◌==◌, ℕ, zero, suc, List, [], ◌∷◌, if◌then◌else◌, slice_index, slice_set}
 use Rattle.rgo_core.specs.Records.{Record}
 

@@ -1,4 +1,5 @@
--- A goroutine at a channel, by its record: before an operation on it, or with an offer there.
+-- A goroutine at a channel, by its record: before an operation on it, or with an offer there. As long as it is there, it has a stake in
+-- the channel's region, so the words stay those of the channel.
 use Rattle.std.specs.Prelude.{◌≡◌, ◌+◌, ◌⊎◌, ℕ, suc, List, ◌∷◌, Option}
 use Rattle.rgo_sound.specs.Code.Code.{Do}
 use Rattle.rgo_core_channels.specs.Records.{Offering, ChannelRec as SideRec, at_rest}
@@ -33,7 +34,8 @@ IsAtChannel T c control =
 abbrev pub knows : Record → SideRec → Record
 knows c side = record c { clock = accessed c.clock; side = side }
 
--- its operation takes effect by an access, has this word as its value, and unlocks the channel
+-- Its operation takes effect by an access, has this word as its value, and unlocks the channel. Whatever the record knew of the channel
+-- is forgotten: it may be outdated at the next operation.
 abbrev pub commits : {T : Setup} {c : Record} {to : Option ℕ} {action : Action} {others : List ℕ} {control : ℕ}
     → Operates T c to action others control → (word : ℕ) → Record
 commits {T} {c} {to} a word = record (acted_record T.code c a.here to word) { side = at_rest }

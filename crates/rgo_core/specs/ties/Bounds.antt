@@ -1,5 +1,5 @@
--- Where the words of pointers lead: to an address from which as many words lie in the pages as follow that of an object of the type
--- at least.
+-- Where the words of pointers lead: to an address after which at least as many words are in the pages as an object of the type has.
+-- This makes an access through a pointer safe without a test of the position, whatever the word is.
 use Rattle.std.specs.Prelude.{◌≡◌, ◌+◌, ◌*◌, ◌≤◌, ℕ, suc, true, List, [], ◌∷◌, map, replicate, Option, Some, None, slice_get, if◌then◌else◌}
 use Rattle.rgo_sound.specs.Code.Code.{CodeOp}
 use Rattle.rgo_sound.specs.Code.Erasure.{erased}
@@ -23,7 +23,7 @@ use Rattle.rgo_core.specs.Records.{Record}
 
 -- ---- how many words follow an object's address at least
 
--- How many words of an object follow one another from its address on: all of them; or of a spread one those before its cells, and
+-- How many words of an object follow one another from its address on: all of them; or, of a spread one, those before its cells and
 -- the numbers of its data pages.
 abbrev pub row_words : (page_words : ℕ) → Object → ℕ
 row_words page_words object =
@@ -56,8 +56,8 @@ least_words page_words structs ty = least_words_in page_words structs ty.layers 
 abbrev pub LieInPages : Setup → (address words : ℕ) → Type 0
 LieInPages T address words = address + words ≤ T.sizes.pages * T.sizes.page_words
 
--- A pointer, slice or channel that is not nil is one more than an address, from which as many words lie in the pages as follow that
--- of its object at least.
+-- A pointer, slice or channel that is not nil is one more than an address, after which at least as many words are in the pages as its
+-- object has.
 abbrev pub Points : Setup → «Type» → ℕ → Type 0
 Points T ty word =
     (address : ℕ) → is_pointer_like ty ≡ true → word ≡ suc address → LieInPages T address (least_words T.sizes.page_words T.code.structs ty)
@@ -70,6 +70,7 @@ slice_words T n = row_words T.sizes.page_words (SliceObject (replicate n value.N
 abbrev pub target_type : Setup → WordFrame → Option ℕ → «Type»
 target_type T w to = destination_type (erased T.code) (bare w) to
 
--- the record after an instruction by an access, and where the word points that is its value
+-- The record after an instruction by an access, and where the word points that is its value. The second half is given at once, since
+-- the word may be any that another goroutine has stored.
 abbrev pub Gives : (T : Setup) (c : Record) {op : CodeOp} → IsAtOp T.code c op → (to : Option ℕ) (word : ℕ) → Record → Type 0
 Gives T c a to word d = (d ≡ acted_record T.code c a to word) × Points T (target_type T a.w to) word

@@ -1,5 +1,6 @@
 -- What ties the clock of a record and its part of memory to the words: the pages that it has still to free, the length and the page number
--- that it has read, and the object that it makes in the pages that it has reserved.
+-- that it has read, and the object that it makes in the pages that it has reserved. The images of the crates below say nothing of these,
+-- since each concerns two parts of the record. They are invariants, so they must hold whatever other goroutines access.
 use Rattle.std.specs.Prelude.{◌≡◌, ◌≤◌, ◌<◌, ◌+◌, ◌/◌, ℕ, suc, Bool, false, true, List, [], ◌∷◌, length, Option, Some, None, slice_get, slice_index}
 use Rattle.rgo_sound.specs.Code.Code.{Code, CodeFn, CodeOp, Do}
 use Rattle.rgo_sound.specs.Code.Erasure.{erased_fn}
@@ -22,7 +23,7 @@ use Rattle.rgo_core_memory.specs.declared.layout.TableSizes.{TableSizes}
 use Rattle.rgo_core.specs.Next.{IsAtOp}
 use Rattle.rgo_core.specs.Records.{Record, steps_of}
 
--- the pages that are still claimed for the slot whose chain is being returned
+-- the pages that are still claimed for the slot whose chain is being returned; nobody else claims for this slot meanwhile
 abbrev pub left_to_free : TableSizes → List ℕ → Give → ℕ
 left_to_free z words Calm = 0
 left_to_free z words (Owes r) = claimed_for z words r
@@ -37,7 +38,8 @@ pub data IsAtElement (code : Code) (c : Record) (address : ℕ) : Type 0 where
   BeforeStore : (p q r : ℕ) (removes : List ℕ) (a : IsAtOp code c (Do None action.Put (p ∷ q ∷ r ∷ []) removes)) → frame_word a.w p ≡ suc address
       → IsAtElement code c address
 
--- Until its next instruction the goroutine is where it was when it read the length, and the slice still has it.
+-- Until its next instruction the goroutine is where it was when it read the length, and the slice still has it. It is before an access to
+-- that slice, so it has a stake in its region, and nobody stores the first word of a slice.
 pub record StillMeasured (code : Code) (z : TableSizes) (words : List ℕ) (c : Record) (m : Measured) : Type 0 where
   pub past : m.steps ≤ steps_of c
   pub before : m.steps ≡ steps_of c → IsAtElement code c m.address
@@ -74,7 +76,8 @@ pub data IsAtCell (code : Code) (z : TableSizes) (words : List ℕ) (c : Record)
       → z.page_words ≤ slice_index words (base z + address)
       → slice_index words (base z + (address + (1 + cell / z.page_words))) ≡ suc page → IsAtCell code z words c address cell page
 
--- until its next instruction the goroutine is where it was when it read the page number, and the lead page still has it
+-- Until its next instruction the goroutine is where it was when it read the page number, and the lead page still has it. The reason is
+-- the same as for lengths.
 pub record Finds (code : Code) (z : TableSizes) (words : List ℕ) (c : Record) (l : Located) : Type 0 where
   pub past : l.steps ≤ steps_of c
   pub before : l.steps ≡ steps_of c → IsAtCell code z words c l.address l.cell l.page
@@ -97,11 +100,14 @@ pub record IsMakingIn (code : Code) (z : TableSizes) (c : Record) (slot : ℕ) :
 -- ----
 
 pub record Link (code : Code) (z : TableSizes) (words : List ℕ) (c : Record) : Type 0 where
+  -- the loop over a chain ends after as many pages as were counted when the last stake ended
   pub owed : c.clock.owed ≡ left_to_free z words c.memory.give
+  -- what was loaded before the access to a cell is still so when the access is made
   pub knows : (m : Measured) → c.memory.measured ≡ Some m → StillMeasured code z words c m
   pub finds : (l : Located) → c.memory.located ≡ Some l → Finds code z words c l
+  -- pages are reserved for the next object alone, so any other instruction finds none
   pub reserved : 0 < length c.memory.reserved.pages → IsMakingIn code z c c.memory.reserved.slot
 
--- of each record
+-- the links of each record
 abbrev pub Links : Code → TableSizes → List ℕ → List Record → Type 0
 Links code z words recs = (g : ℕ) (c : Record) → slice_get recs g ≡ Some c → Link code z words c

@@ -1,4 +1,5 @@
--- The moment that laws about channels speak of, from what is known of a table and its records.
+-- The moment that laws about channels are about, from what is known of a table and its records. It is all parts of the core that
+-- rgo_core_channels names.
 use Rattle.std.specs.Prelude.{ℕ, map}
 use Rattle.rgo_core_channels.specs.Positions.{cell_place, place_at}
 use Rattle.rgo_core_channels.specs.Moments.{Moment}

@@ -1,4 +1,4 @@
--- Ends of a run, and what local steps keep of stakes.
+-- Ends of a run, and what local steps keep of stakes. After a trap the goroutine has not moved, so its record fits as before.
 use Rattle.std.proofs.Common.{◌≡◌, ℕ, Bool, true, false, List, [], ◌∷◌, ◌++◌, Option, Some, None, refl, sym, ap, ◌∙◌, subst, inl}
 use Rattle.std.proofs.Common.{slice_get, slice_set, append-nil, nat_eq, if◌then◌else◌}
 use Rattle.std.proofs.lemmas.Option.{same_Some}

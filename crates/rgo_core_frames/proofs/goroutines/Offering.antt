@@ -1,4 +1,5 @@
--- Offers are made, taken and acknowledged: the records fit after each.
+-- Offers are made, taken and acknowledged: the records fit after each. The hard one is the meeting: two goroutines move in the state, and
+-- one record. The sender's becomes `IsPast`, with what it was before. An acknowledgement makes the same step on the record from there.
 use Rattle.std.proofs.Common.{◌≡◌, ◌≢◌, ◌⊎◌, ℕ, ◌+◌, true, false, ◌&&◌, List, [], ◌∷◌, length, Option, Some, None, refl, sym, ap, ◌∙◌, subst, inl, inr}
 use Rattle.std.proofs.Common.{slice_get, slice_set, append-nil, if◌then◌else◌, option_and_then, option_map, nat_eq, true≢false, Contains, arith}
 use Rattle.std.proofs.lemmas.Option.{same_Some, slice_get_within}
@@ -56,7 +57,7 @@ use Rattle.rgo_core_frames.specs.States.{AtInstruction, Here}
 use Rattle.rgo_core_frames.proofs.Leaving.{has_step, has_still_step, mark_stays, print_stays}
 use Rattle.std.specs.List.{list_any}
 
--- a frame goes on after an action that gives this word
+-- a frame continues after an action whose value is this word
 going_word : (code : Code) (addresses : List ℕ) (frame : TacFrame) (w : WordFrame) (instr : CodeInstr) → current code frame ≡ Some instr
     → NewestShows code addresses frame w → (to : Option ℕ) (action : _) (from removes : List ℕ)
     → instr.op ≡ Do to action from removes → (v : Value) (word : ℕ) → Shows addresses v word

@@ -1,4 +1,5 @@
--- The start of a goroutine: its record fits it.
+-- The start of a goroutine: its record fits it. The child's holder is computed from the parent's by the machine's function, which
+-- commutes with slots. Its frame is that of a call.
 use Rattle.std.proofs.Common.{◌≡◌, ℕ, ◌+◌, true, List, [], ◌∷◌, ◌++◌, length, map, Option, Some, None, refl, sym, ap, ◌∙◌, subst, inl}
 use Rattle.std.proofs.Common.{slice_get, slice_set, append-nil, Contains}
 use Rattle.std.proofs.lemmas.Option.{same_Some, slice_get_within}

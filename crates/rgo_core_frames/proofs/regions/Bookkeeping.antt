@@ -1,4 +1,5 @@
--- What an instruction leaves of a goroutine's regions, it leaves of their slots.
+-- What an instruction does to a goroutine's regions, it does to their slots. The machine's function reads of frames only places in the
+-- code and the tests of branches, and these agree.
 use Rattle.std.proofs.Common.{◌≡◌, ℕ, zero, suc, List, [], ◌∷◌, ◌++◌, map, Option, Some, None, refl, sym, ap, ◌∙◌, get_or}
 use Rattle.std.proofs.Common.{if◌then◌else◌}
 use Rattle.rgo_sound.specs.Machine.Actions.{is_true}
@@ -152,7 +153,7 @@ bare_test w test = go w.variables test
     go (x ∷ xs) zero = refl
     go (x ∷ xs) (suc n) = go xs n
 
--- an instruction that is no branch is left with the same removals
+-- an instruction that is not a branch has the same removals
 pub same_removes : (frame : TacFrame) (w : WordFrame) (op : CodeOp)
     → ((test target other : ℕ) (removes otherwise : List ℕ) → op ≡ Branch test target removes other otherwise
     → is_set (frame_word w test) ≡ is_true (value_at frame test)) → removes_behind (bare w) op ≡ removes_behind frame op

@@ -1,4 +1,5 @@
--- A new region at a free slot: the records fit after it.
+-- A new region at a free slot: the records fit after it. The map of slots changes at a number that no holder names yet, so all other
+-- records stay. This needs that every region which a holder names, owes or protects was created.
 use Rattle.std.proofs.Common.{◌≡◌, ◌≢◌, ◌⊎◌, ℕ, ◌<◌, ◌||◌, Bool, true, false, List, [], ◌∷◌, ◌++◌, map, length, Option, Some, None, refl, sym, ap, ◌∙◌, subst, inl, inr}
 use Rattle.std.proofs.Common.{slice_get, slice_set, nat_eq, arith, if◌then◌else◌, option_and_then, true≢false}
 use Rattle.std.proofs.lemmas.Option.{same_Some}
@@ -33,7 +34,7 @@ later : (a b : Bool) → b ≡ true → (if a then true else b) ≡ true
 later true b e = refl
 later false b e = e
 
--- ---- the same slots, where the places of all regions that are named agree
+-- ---- the same slots, if the two maps agree on all regions that are named
 
 module _ (slot_of slot_of' : ℕ → ℕ) where
   numbers_same : (rs : List ℕ) → ((r : ℕ) → is_in r rs ≡ true → slot_of' r ≡ slot_of r) → map slot_of' rs ≡ map slot_of rs

@@ -1,4 +1,4 @@
--- In which region the next instruction makes an object, told by the record.
+-- In which region the next instruction makes an object, by the record.
 use Rattle.std.proofs.Common.{◌≡◌, ℕ, Bool, List, ◌∷◌, Option, Some, None, true, false, true≢false, refl, sym, ap, ◌∙◌, option_and_then, option_map, if◌then◌else◌}
 use Rattle.rgo_sound.specs.Typed.declared.actions.Action.{Action}
 use Rattle.rgo_sound.specs.Typed.declared.actions.Action.TheVariants as action
@@ -61,7 +61,7 @@ region_law x by_slot e = record {
         (sym x.before.newest.alike.function)
         ∙ at.1
 
--- ---- it is no local step
+-- ---- it is not a local step
 
 none : {A : Type 0} (region : Region) → None ≡ Some region → A
 none region e = absurd (by e)

@@ -1,4 +1,4 @@
--- A page is taken: the records fit after it.
+-- A page is taken: the records fit after it, since which regions are live does not change.
 use Rattle.std.proofs.Common.{◌≡◌, ◌≤◌, ◌<◌, ℕ, Bool, true, false, not, ◌&&◌, nat_le, arith, List, [], ◌∷◌, length, Option, Some, None, refl, sym, ap, ◌∙◌, subst, inl}
 use Rattle.std.proofs.Common.{slice_get, slice_set, append-nil, nat_eq, if◌then◌else◌, option_and_then, option_map}
 use Rattle.rgo_sound.specs.Code.Checked.{IsChecked}
@@ -31,7 +31,7 @@ use Rattle.rgo_core_frames.proofs.Standing.{top}
 use Rattle.rgo_sound.proofs.Progress.{live_of}
 use Rattle.rgo_core_frames.proofs.Leaving.{leaves_rest}
 
--- a page more leaves what is live
+-- one page more leaves which regions are live
 page_live : (regions : List RegionInfo) (r q : ℕ) → is_live (with_info regions r one_page_more) (Numbered q) ≡ true
     → is_live regions (Numbered q) ≡ true
 page_live regions r q e = split (nat_eq r q) here (λ n. ap has_stakes (sym (with_info_other regions r q one_page_more n)) ∙ e)
@@ -64,7 +64,7 @@ wants_more page_words reserved used object spread small few =
     at_most : (n m : ℕ) → n ≤ m → nat_le n m ≡ true
     at_most n m l = grind arith
 
--- another one wants a page where it does not fit the own page
+-- another one wants a page if it does not fit the own page
 pub wants_own : (page_words reserved : ℕ) (used : Option ℕ) (object : Object) → is_spread page_words object ≡ false
     → fits_in_page page_words used (object_words object) ≡ false → wants_page page_words reserved used object ≡ true
 wants_own page_words reserved used object spread full =

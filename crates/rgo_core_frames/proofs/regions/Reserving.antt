@@ -1,4 +1,5 @@
--- Reserved pages are for the spread object that their goroutine makes next, as its record says.
+-- Reserved pages are for the spread object that their goroutine makes next. That is an invariant of runs in rgo_sound. Here it is read
+-- through the record.
 use Rattle.std.proofs.Common.{◌≡◌, ◌≤◌, ◌<◌, ◌⊎◌, ℕ, zero, suc, false, true, not, ◌&&◌, nat_lt, if◌then◌else◌, List, [], ◌∷◌, Some, None, refl, sym, ap, ◌∙◌, subst, inl, inr, arith, slice_get, true≢false}
 use Rattle.std.proofs.lemmas.Option.{same_Some}
 use Rattle.rgo_sound.specs.Memory.Memory.{Object}

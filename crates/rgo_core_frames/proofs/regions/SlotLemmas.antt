@@ -1,4 +1,5 @@
--- What the region machine does to names, protections and duties, it does to slots.
+-- What the region machine does to names, protections and duties, it does to slots: each function commutes with the map. Those that
+-- compare regions do so only for live ones, which have different slots.
 use Rattle.std.proofs.Common.{◌≡◌, ℕ, Bool, true, false, ◌||◌, ◌&&◌, not, List, [], ◌∷◌, ◌++◌, map, Option, Some, None, option_map}
 use Rattle.std.proofs.Common.{refl, sym, ap, ◌∙◌, nat_eq, if◌then◌else◌, true≢false}
 use Rattle.std.specs.List.{list_any}

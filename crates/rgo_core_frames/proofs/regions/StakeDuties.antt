@@ -1,4 +1,5 @@
--- The duties of a goroutine that touch the word of a region.
+-- The duties of a goroutine that touch the word of a region. The record knows a slot, the machine a region: the goroutine has a stake
+-- there, so it is live and the only one of that slot.
 use Rattle.std.proofs.Common.{◌≡◌, ◌⊎◌, ℕ, ◌-◌, Bool, true, false, List, [], ◌∷◌, map, length, Option, Some, None, refl, sym, ap, ◌∙◌, subst, inl, inr}
 use Rattle.std.proofs.Common.{slice_get, slice_set, append-nil, nat_eq, nat_lt, arith, if◌then◌else◌, option_map, option_and_then}
 use Rattle.std.proofs.lemmas.Option.{some_pair_parts}

@@ -1,4 +1,4 @@
--- The constants of code fit where those of its three-address code do.
+-- The constants of code fit if those of its three-address code do, since they are the same.
 use Rattle.std.proofs.Common.{◌≡◌, ◌∙◌, ℕ, zero, suc, ◌+◌, ◌<◌, List, [], ◌∷◌, All, IfSome, Some, length, take, slice_get, ap, subst, arith}
 use Rattle.std.specs.Option.{option_map}
 use Rattle.std.proofs.lemmas.List.Elements.{All-head, All-more, All-tail}

@@ -1,4 +1,4 @@
--- What the words of operands say, and a load.
+-- What words of operands mean, and a load. The type of the value is known from the invariant, so its word can show nothing else.
 use Rattle.std.proofs.Common.{◌≡◌, ℕ, suc, true, List, [], ◌∷◌, ◌++◌, length, Some, refl, sym, ap, ◌∙◌, subst, arith}
 use Rattle.std.proofs.Common.{slice_get, append-nil, Contains, true≢false, le_refl}
 use Rattle.std.proofs.lemmas.Option.{same_Some, slice_get_past}

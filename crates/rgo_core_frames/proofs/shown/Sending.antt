@@ -1,4 +1,4 @@
--- What a sender's record sends.
+-- What a sender's record sends: the frame in the state and that of the record are before the same instruction.
 use Rattle.std.proofs.Common.{◌≡◌, ℕ, List, [], ◌∷◌, Option, sym, ap, ◌∙◌, subst, Contains}
 use Rattle.std.proofs.lemmas.Option.{same_Some}
 use Rattle.rgo_sound.proofs.Places.{contains_here, contains_there, head_is}

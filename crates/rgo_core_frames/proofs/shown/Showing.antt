@@ -1,5 +1,5 @@
 -- Frames of words that show frames: after a write, along an edge of the code, in a called function, and in a caller that
--- continues.
+-- continues. What is live after an edge was live before it or was written, so liveness goes backwards and the proof forwards.
 use Rattle.std.proofs.Common.{◌≡◌, ◌≢◌, ℕ, zero, suc, ◌+◌, List, [], ◌∷◌, ◌++◌, map, length, drop, get_or, Option, Some, None}
 use Rattle.std.proofs.Common.{option_map, refl, sym, ap, ◌∙◌, subst, arith, slice_set, Contains, pow_pos}
 use Rattle.std.proofs.lemmas.Option.{same_Some}
@@ -140,7 +140,7 @@ module _ (addresses : List ℕ) where
       here : (fn : CodeFn) → function_at code frame ≡ Some fn → HasInstr fn frame.next instr
       here fn is = sym (ap (λ o. current_in o frame.next) is) ∙ cur
 
-      -- there is a function
+      -- the frame has a function
       pub in_function : (fn : CodeFn) × (function_at code frame ≡ Some fn)
       in_function = go (function_at code frame) refl
         where
@@ -160,7 +160,7 @@ module _ (addresses : List ℕ) where
       all_reads_show (v ∷ from) h =
           (reads_show v (h v (contains_here v from)), all_reads_show from (λ x c. h x (contains_there v from x c)))
 
-      -- it is left along an edge, and one variable may be written
+      -- the frame continues along an edge, and one variable may be written
       pub goes_on : (to : Option ℕ) (v : Value) (word i : ℕ) (removes : List ℕ)
           → Contains {X = ℕ × List ℕ} (edges instr.op frame.next) (i, removes) → writes (erased_op instr.op) ≡ to
           → Shows addresses v word → NewestShows code addresses (continued frame to v i)
@@ -189,7 +189,7 @@ module _ (addresses : List ℕ) where
             ∙ ap call_target is ∙ sym (ap (λ op. writes (erased_op op)) is) ∙ e)) live);
       }
 
-    -- a function is called with what shows the arguments
+    -- a function is called with words that show the arguments
     pub enters : (callee : CodeFn) (n : ℕ) (vs : List Value) (ws : List ℕ) → AllShow addresses vs ws
         → NewestShows code addresses (new_tac_frame (erased_fn callee) n vs) (word_called callee n ws)
     enters callee n vs ws h = record {
@@ -236,7 +236,7 @@ module _ (addresses : List ℕ) where
             (λ n. c.shows call cur fn is x n live));
       }
 
-      -- without one, where none is waited for
+      -- without one, if none is waited for
       continues : call_target call.op ≡ None
           → NewestShows code addresses (resumed_by caller (erased_op call.op) None) (word_resumed_by w call.op None)
       continues none = record {

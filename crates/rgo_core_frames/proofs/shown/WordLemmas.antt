@@ -1,4 +1,5 @@
--- Words that show what operators give for values.
+-- Words that show the values of operators. Each operator on ints is one of 64 bits in both definitions. The hard case is equality: equal
+-- words of two objects mean the same object only because both are in live regions.
 use Rattle.std.proofs.Common.{◌≡◌, ◌≢◌, ℕ, zero, suc, ◌/◌, ◌%◌, ◌^◌, ◌<◌, ◌≤◌, ◌==◌, ◌⊎◌, inl, inr, Bool, true, false, not, List, ◌++◌}
 use Rattle.std.proofs.Common.{Some, Result, Ok, Err, refl, sym, ap, ◌∙◌, subst, arith, slice_get, ℤ, pos, negsuc, neg_ℤ}
 use Rattle.std.proofs.Common.{if◌then◌else◌, int_div, int_rem, FitsSigned, w64, true≢false, mod-lt, pow_pos, div-le_self}
@@ -84,7 +85,7 @@ divided_word y z f r e = go (int_eq y (pos 0)) e
     go true q = cc
     go false q = ok_word (value.Int z) r f q
 
--- what an operator gives for two ints of 64 bits is one, or a bool
+-- the value of an operator for two ints of 64 bits is such an int, or a bool
 pub ints_word : (op : BinaryOp) (x y : ℤ) → FitsSigned w64 x → (r : Value) → on_ints op x y ≡ Ok r → IsWord r
 ints_word binary.Add x y f r e = ok_word (value.Int (int_wrapping_add w64 x y)) r (wrapped_fits _) e
 ints_word binary.Sub x y f r e = ok_word (value.Int (int_wrapping_sub w64 x y)) r (wrapped_fits _) e
@@ -100,9 +101,9 @@ ints_word binary.Ne x y f r e = ok_word (value.Bool _) r tt e
 ints_word binary.And x y f r e = ok_word value.Nil r tt e
 ints_word binary.Or x y f r e = ok_word value.Nil r tt e
 
--- ---- what values of a type are
+-- ---- the values of a type
 
--- a value, its word, and that the one shows the other: an int
+-- a value, its word, and that the word shows the value: an int
 pub record IsInt (v : Value) (w : ℕ) : Type 0 where
   pub is : v ≡ value.Int (cast_signed w64 w)
   pub small : w < 2 ^ 64
@@ -135,7 +136,7 @@ truth_is kinds addresses (value.Object o) w k h = absurd (bool_not_pointer k.1)
 
 -- ---- equality
 
--- whether two values are equal, which is whether their words are
+-- two values are equal exactly if their words are
 pub record AreCompared (v w : Value) (x y : ℕ) : Type 0 where
   pub same : Bool
   pub eq : binary_of binary.Eq v w ≡ Ok (value.Bool same)
@@ -177,7 +178,7 @@ flags_same true false = refl
 flags_same false true = refl
 flags_same false false = refl
 
--- what its operands are, by their types
+-- its operands, by their types
 abbrev pub Operands : BinaryOp → Value → Value → ℕ → ℕ → Type 0
 Operands binary.Eq v w x y = AreCompared v w x y
 Operands binary.Ne v w x y = AreCompared v w x y
@@ -185,7 +186,7 @@ Operands op v w x y = IsInt v x × IsInt w y
 
 module _ (addresses : List ℕ) (stands : ℕ → Type 0)
     (differ : (o p a : ℕ) → stands o → stands p → slice_get addresses o ≡ Some a → slice_get addresses p ≡ Some a → o ≡ p) where
-  -- an object that a value points to stands
+  -- an object to which a value points is live
   abbrev pub IsStanding : Value → Type 0
   IsStanding (value.Object o) = stands o
   IsStanding _ = Unit {0}
@@ -228,7 +229,7 @@ module _ (addresses : List ℕ) (stands : ℕ → Type 0)
 
   -- ---- a binary operator
 
-  -- it gives a value that the word shows
+  -- it has a value that the word shows
   pub record Answers (o : Result Value Trap) (word : ℕ) : Type 0 where
     pub answer : Value
     pub is : o ≡ Ok answer

@@ -1,4 +1,5 @@
--- The steps of actions that touch words, of prints, and of starts.
+-- The steps of actions that touch words, and of prints. All tests of the machine pass by what is known before an instruction, so its
+-- step is computed, and the record after it is the machine's bookkeeping over slots.
 use Rattle.std.specs.Int.{from_bool}
 use Rattle.std.proofs.Common.{◌≡◌, ℕ, ◌+◌, Bool, true, false, not, ◌&&◌, List, [], ◌∷◌, ◌++◌, length, Option, Some, None, refl, sym, ap, ◌∙◌, subst, inl}
 use Rattle.std.proofs.Common.{nat_le, nat_lt, slice_get, slice_set, append-nil, Contains, true≢false, if◌then◌else◌, option_map}
@@ -112,7 +113,7 @@ module _ (code : Code) (page_words : ℕ) (checked : IsChecked code) (slot_of : 
     running = running;
   }
 
-  -- frames go on: those of no other goroutine change
+  -- frames continue: those of other goroutines do not change
   module _ (memory : Memory) (bytes : List ℕ) (f : TacFrame) (fs : List TacFrame) (given : Holder × List Region)
       (next : List WordFrame)
       (acts : act (erased code) s.plain.memory (erased_op instr.op) instr.place b.frame b.callers
@@ -233,7 +234,7 @@ is_set_of : (t : Bool) → is_set (from_bool t) ≡ t
 is_set_of true = refl
 is_set_of false = refl
 
--- an int or a bool is what its word shows by its type
+-- a word shows an int or a bool by its type
 typed_is : (addresses : List ℕ) (kinds : List «Type») (slot : Slot) (v : Value) (word : ℕ) → is_pointer_like slot.ty ≡ false
     → HasKind kinds slot.ty v → Shows addresses v word → v ≡ typed_value (Some slot) word
 typed_is addresses kinds slot (value.Int z) word p k sh =

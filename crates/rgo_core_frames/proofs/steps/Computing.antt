@@ -1,4 +1,4 @@
--- What an action gives that touches no memory, on values and on words.
+-- The value of an action that touches no memory, on values and on words: action by action, with operands of the types that it takes.
 use Rattle.std.proofs.Common.{◌≡◌, ℕ, ◌==◌, slice_get, Bool, true, false, not, arith, List, [], ◌∷◌, Some, FitsSigned, w64, refl, sym, ap, ◌∙◌, subst}
 use Rattle.std.proofs.Common.{true≢false}
 use Rattle.std.proofs.lemmas.Option.{same_Some}
@@ -29,12 +29,12 @@ IsPointer value.Nil = Unit {0}
 IsPointer (value.Object o) = Unit {0}
 IsPointer _ = ⊥
 
--- what a constant is
+-- constants
 abbrev pub ConstantFits : Action → Type 0
 ConstantFits (action.Int k) = FitsSigned w64 k
 ConstantFits _ = Unit {0}
 
--- what the operands are, by their types
+-- the operands, by their types
 abbrev pub Fitted : Action → List Value → List ℕ → Type 0
 Fitted (action.Binary op) (v ∷ w ∷ []) (x ∷ y ∷ []) = Operands op v w x y
 Fitted action.Neg (v ∷ []) (x ∷ []) = IsInt v x
@@ -44,7 +44,7 @@ Fitted _ _ _ = Unit {0}
 
 module _ (addresses : List ℕ) (stands : ℕ → Type 0)
     (differ : (o p a : ℕ) → stands o → stands p → slice_get addresses o ≡ Some a → slice_get addresses p ≡ Some a → o ≡ p) where
-  -- it leaves the memory, and gives a value that the word shows
+  -- it leaves the memory, and has a value that the word shows
   pub record Gives (structs : List Struct) (a : Action) (ty : «Type») (vs : List Value) (m : Memory) (word : ℕ) : Type 0
     where
       pub value : Value

@@ -1,4 +1,5 @@
--- The step of the region machine for an instruction of one goroutine that makes no object.
+-- The step of the region machine for an instruction of one goroutine that makes no object. The machine's definition is a chain of tests,
+-- shown to be true one after the other.
 use Rattle.std.proofs.Common.{◌≡◌, ℕ, zero, suc, true, ◌&&◌, List, [], ◌∷◌, ◌++◌, length, Option, Some, None, refl, sym, ap, ◌∙◌, le_refl, if◌then◌else◌}
 use Rattle.std.proofs.Common.{slice_get, slice_set, option_map, option_and_then}
 use Rattle.std.proofs.lemmas.Option.{slice_get_past, slice_get_within}

@@ -1,4 +1,5 @@
--- Each step of the three-address machine leaves ints that fit in words.
+-- Each step of the three-address machine leaves ints that fit in words. A new int is a constant, the value of an operator, a length or
+-- a capacity. All others were there before, and moved.
 use Rattle.std.proofs.Common.{◌≡◌, ℕ, zero, suc, Bool, true, false, List, [], ◌∷◌, ◌++◌, map, drop, get_or, length, bytes_eq, codes, replicate, Option, Some, None, Result, Ok, Err, refl, sym, ap, subst, ℤ, pos, negsuc, nat_eq, nat_lt, if◌then◌else◌, arith, slice_get, slice_set, option_map, option_and_then}
 use Rattle.std.proofs.lemmas.List.{length-replicate}
 use Rattle.rgo_sound.specs.Ast.declared.ops.BinaryOp.{BinaryOp}
@@ -117,7 +118,7 @@ word_fits (value.Bool b) h = tt
 word_fits value.Nil h = tt
 word_fits (value.Object o) h = tt
 
--- an answer that fits
+-- a result that fits
 abbrev AnswerFits : Result Value Trap → Type 0
 AnswerFits (Ok v) = ValueFitsWord v
 AnswerFits (Err trap) = Unit {0}
@@ -412,7 +413,7 @@ resumed_fits code caller value h g = go (instr_of code caller) value g
     go (Some i) None g = h
     go (Some i) (Some v) g = assigned_fits caller.variables (target_of i.op) v h g
 
--- what one goroutine does
+-- the step of one goroutine
 abbrev ActedFits : Acted → Type 0
 ActedFits a = MemoryIntsFit a.memory × FramesIntsFit a.frames × Each FramesIntsFit a.started
 

@@ -1,4 +1,5 @@
--- A local instruction on frames, and on frames of words.
+-- A local instruction on frames, and on frames of words: operation by operation. The hard one is the return into a caller, whose
+-- variables are shown only after its call (`CallerShows`).
 use Rattle.std.specs.Int.{from_bool}
 use Rattle.std.proofs.Common.{◌≡◌, ℕ, ◌+◌, Bool, true, false, List, [], ◌∷◌, Option, Some, None, refl, sym, ap, ◌∙◌, subst, option_map}
 use Rattle.std.proofs.Common.{Contains, if◌then◌else◌, option_and_then}
@@ -50,7 +51,7 @@ pub chained : {X Y : Type 0} (f : X → Option Y) (o : Option X) (y : Y) → opt
 chained f None y e = cc
 chained f (Some x) y e = (x, refl, e)
 
--- the frames go on over the same memory, and the words of the other frames show them
+-- the frames continue over the same memory, and the words show them
 pub record ActsAlike
     (code : Code) (addresses : List ℕ) (m : Memory) (frame : TacFrame) (callers : List TacFrame) (instr : CodeInstr)
     (after : List WordFrame) : Type 0 where

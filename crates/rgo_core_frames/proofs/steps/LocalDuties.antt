@@ -1,4 +1,4 @@
--- The duties of a goroutine that touch no word.
+-- The duties of a goroutine that touch no word: duty by duty. A name leads to a slot exactly if it leads to a region of that slot.
 use Rattle.std.proofs.Common.{◌≡◌, ℕ, ◌<◌, ◌||◌, Bool, true, false, List, [], ◌∷◌, map, Option, Some, None, refl, sym, ap, ◌∙◌, subst}
 use Rattle.std.proofs.Common.{slice_get, nat_eq, arith, if◌then◌else◌, option_map, option_and_then}
 use Rattle.std.proofs.lemmas.Option.{same_Some}

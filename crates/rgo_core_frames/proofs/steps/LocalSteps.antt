@@ -1,4 +1,5 @@
--- A local step of a record is a step of the region machine, after which the records fit again.
+-- A local step of a record is a step of the region machine, after which the records fit again. An instruction goes by `LocalActs`, a duty
+-- by `LocalDuties`. A sender whose offer was taken has no local step: its record is at a send.
 use Rattle.std.proofs.Common.{◌≡◌, ◌⊎◌, ℕ, zero, suc, List, [], ◌∷◌, ◌++◌, Option, Some, None, refl, sym, ap, ◌∙◌, subst, inl, inr}
 use Rattle.std.proofs.Common.{slice_get, slice_set, append-nil, Contains}
 use Rattle.std.proofs.lemmas.Option.{same_Some}
@@ -53,7 +54,7 @@ module _ (code : Code) (w : WordFrame) (ws : List WordFrame) (after : List WordF
 
 -- ---- a step
 
--- the run ends where the record says so
+-- the run ends exactly if the record shows it
 ends_alike : (code : Code) (addresses : List ℕ) (g : ℕ) (frames : List TacFrame) (ws : List WordFrame)
     → FramesShow code addresses frames ws → end_by g frames None ≡ end_by_frames g [] ws
 ends_alike code addresses zero [] [] f = refl
@@ -78,7 +79,7 @@ module _ (code : Code) (page_words : ℕ) (checked : IsChecked code) (constants 
   Steps event end =
       HasStep code page_words slot_of addresses s event s.regions (mark_with_end s.mark end) (slice_set records g d)
 
-  -- from the step and what it leaves
+  -- from the machine's step and what it leaves
   steps_to : (event : Event) (end : Option End) (t : RegionState) → region_step code page_words s event ≡ Some t
       → (frames' : List TacFrame) (h' : Holder) → Changes s t g frames' h' [] [] → (same : StaysElse s t)
       → t.regions ≡ s.regions → t.mark ≡ mark_with_end s.mark end → t.steps ≡ steps_after s.steps event

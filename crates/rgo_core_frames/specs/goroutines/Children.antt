@@ -1,4 +1,5 @@
--- The start of a goroutine: the parent's record, and the child's.
+-- The start of a goroutine: the parent's record, and the child's. The child's stakes come from the pending ones of its parent, so no
+-- count changes at this moment.
 use Rattle.rgo_sound.specs.Code.Code.{Code, CodeFn, CodeOp, Go}
 use Rattle.rgo_sound.specs.RegionMachine.Instructions.{child_holder}
 use Rattle.rgo_sound.specs.RegionMachine.Owed.{code_function}

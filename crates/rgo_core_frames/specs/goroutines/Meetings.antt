@@ -1,4 +1,5 @@
--- Offers on channels without a buffer: made, taken by a receiver, and acknowledged.
+-- Offers on channels without a buffer: made, taken by a receiver, and acknowledged. Which channel it is, only the image of channels
+-- knows. Hence a record has the same offer for all channels.
 use Rattle.rgo_sound.specs.Code.Code.{CodeInstr, Do}
 use Rattle.rgo_sound.specs.Machine.declared.picks.Pick.TheVariants.{Meet}
 use Rattle.rgo_sound.specs.Memory.Channels.{is_meeting_at}
@@ -26,7 +27,8 @@ offering c = record c { holder = record c.holder { offer = Standing 0 } }
 abbrev pub acknowledged : FramesRec → FramesRec
 acknowledged c = record c { holder = record c.holder { offer = NoOffer } }
 
--- A send on an open channel without a buffer, on which there is no offer: the words of the channel have to show that.
+-- A send on an open channel without a buffer that has no offer. The words of the channel have to show this, since the machine tests the
+-- offers of all goroutines.
 abbrev pub FrameOfferLaw : Type 0
 FrameOfferLaw =
     (x : AtInstruction) (to : Option ℕ) (channel sent : ℕ) (removes : List ℕ) (o : ℕ)
@@ -37,7 +39,7 @@ FrameOfferLaw =
     (slice_set x.here.records x.here.g (offering x.here.c))
 
 -- A receiver takes the offer of goroutine t, which is at its channel; the sender's record stays. The word that it receives has to
--- show what is sent.
+-- show what is sent: it comes from the cell, in which the sender has stored it.
 abbrev pub FrameMeetLaw : Type 0
 FrameMeetLaw =
     (x : AtInstruction) (t : ℕ) (to : Option ℕ) (channel : ℕ) (removes : List ℕ) (o word : ℕ) (k : Holder)
@@ -55,7 +57,7 @@ SentLaw =
     → x.instr.op ≡ Do to Send (channel ∷ sent ∷ []) removes → (y : StandsAtSend x.here.code x.here.s.plain x.here.g o)
     → Shows x.here.addresses (value_at y.frame y.sent) (frame_word x.w sent)
 
--- a sender whose offer was taken continues; the words of the channel show that it was taken
+-- A sender whose offer was taken continues; the words of the channel show that it was taken. The value of a send is nil, hence the word 0.
 abbrev pub FrameAcknowledgeLaw : Type 0
 FrameAcknowledgeLaw =
     (x : Here) (w : WordFrame) (ws : List WordFrame) (instr : CodeInstr) (to : Option ℕ) (from removes : List ℕ)

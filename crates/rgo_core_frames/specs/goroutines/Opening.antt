@@ -16,7 +16,7 @@ main_record code n main = record {
   holder = main_holder code (bare_all (word_called main n [] ∷ []));
 }
 
--- a record without frames, which has no part in any region
+-- a record without frames, which has no stake in any region
 abbrev pub no_record : FramesRec
 no_record = record {
   frames = [];

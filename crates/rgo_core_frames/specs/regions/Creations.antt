@@ -1,4 +1,5 @@
--- A region is created, at a slot that no live region has.
+-- A region is created, at a slot that no live region has. A slot serves again after its region was removed. So a record may name regions
+-- by slots only because a goroutine names live regions alone.
 use Rattle.rgo_sound.specs.RegionMachine.Machine.{Attend}
 use Rattle.rgo_sound.specs.RegionMachine.Regions.{is_live, unbind}
 use Rattle.rgo_sound.specs.RegionMachine.States.{Create, Duty, RegionState, top_names, with_top}
@@ -19,7 +20,8 @@ created_in c k ds p = record c {
   };
 }
 
--- `after` maps the next region to slot p, and leaves the slots of the regions that were created before
+-- `after` maps the next region to slot p, and leaves the slots of the regions that were created before. It is any such function, and
+-- not one changed at a number, of which each user would have another form.
 pub record GivesSlot (s : RegionState) (before after : ℕ → ℕ) (p : ℕ) : Type 0 where
   pub new : after (length s.regions) ≡ p
   pub old : (r : ℕ) → r < length s.regions → after r ≡ before r

@@ -1,4 +1,4 @@
--- A page is taken: the records fit after it, since they have nothing of pages.
+-- A page is taken: the records fit after it, since they have nothing of pages. The image of memory has them.
 use Rattle.rgo_sound.specs.Memory.Memory.{Object}
 use Rattle.rgo_sound.specs.RegionMachine.Machine.{TakePage, next_object, page_taken, region_step}
 use Rattle.rgo_sound.specs.RegionMachine.Objects.{fill_of, making_region, wants_page, with_page}
@@ -11,7 +11,7 @@ use Rattle.rgo_core_frames.specs.States.{AtInstruction}
 use Rattle.rgo_core_frames.specs.steps.Bookkept.{LeavesRest}
 
 -- The state after goroutine g, whose holder is h, has taken a page in region r for this object: it is the goroutine's own page
--- there, or, where the object is spread, one more that is reserved.
+-- there, or, if the object is spread, one more that is reserved.
 abbrev pub page_after : (page_words : ℕ) → RegionState → (g : ℕ) → Holder → Region → Object → RegionState
 page_after page_words s g h r object = page_taken s g (with_page page_words h r object) r
 
@@ -25,8 +25,8 @@ pub record TakesPage (x : AtInstruction) (r : Region) (object : Object) : Type 0
   pub fit : RecordsFit x.here.code x.here.slot_of x.here.addresses (after_page x r object) x.here.records
   pub rest : LeavesRest x.here.s (after_page x r object) (TakePage x.here.g)
 
--- The next instruction makes this object in region r, and it wants a page there, as the memory's part says: it does not fit the
--- goroutine's own page, or it is spread and has not all of its pages.
+-- The next instruction makes this object in region r, and it wants a page there, by the image of memory: it does not fit the
+-- goroutine's own page, or it is spread and does not have all of its pages.
 abbrev pub PageLaw : Type 0
 PageLaw =
     (x : AtInstruction) (r : Region) (object : Object)

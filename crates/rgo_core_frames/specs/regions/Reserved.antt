@@ -1,4 +1,5 @@
--- Which goroutines have reserved pages, by their records: only those that owe nothing and make a spread object next.
+-- Which goroutines have reserved pages, by their records: only those that owe nothing and make a spread object next. This is an invariant
+-- of runs, proved from their first state on, hence the events.
 use Rattle.rgo_sound.specs.Memory.Memory.{Object}
 use Rattle.rgo_sound.specs.RegionMachine.Machine.{Event, next_object, region_run}
 use Rattle.rgo_sound.specs.RegionMachine.Objects.{allotted, is_spread}
@@ -27,7 +28,7 @@ pub record ReservedLaw : Type 0 where
   pub within : (x : AtInstruction) (events : List Event) (object : Object) → IsReached x.here events
       → next_object x.here.code x.here.s x.here.g ≡ Some object
       → x.before.h.reserved ≤ pages_of x.here.page_words object
-  -- once all of them are reserved, the object is placed in them: none is reserved after it, and the own pages stay
+  -- When all of them are reserved, the object is placed in them: none is reserved after it, and the own pages stay.
   pub has_place : (x : AtInstruction) (events : List Event) (object : Object) (r : Region) → IsReached x.here events
       → next_object x.here.code x.here.s x.here.g ≡ Some object → is_spread x.here.page_words object ≡ true
       → x.before.h.reserved ≡ pages_of x.here.page_words object

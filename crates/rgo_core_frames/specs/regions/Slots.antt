@@ -1,4 +1,5 @@
--- What a goroutine has of the regions, by the slots of these regions in place of their numbers.
+-- What a goroutine has of the regions, by the slots of these regions in place of their numbers. A goroutine names live regions alone, and
+-- these have different slots, so nothing is lost.
 use Rattle.rgo_sound.specs.RegionMachine.Regions.{Bindings}
 use Rattle.rgo_sound.specs.RegionMachine.States.{Create, Duty, EndBase, RegionEnvironment, Holder, NoOffer, Offer, Protect, Remove, Share, Standing, Taken, Unprotect}
 use Rattle.rgo_sound.specs.RegionMachine.declared.regions.Region.TheVariants.{Global as GlobalRegion, Numbered}
@@ -34,13 +35,13 @@ module _ (slot_of : ℕ → ℕ) where
   abbrev pub slot_duties : List Duty → List Duty
   slot_duties ds = map slot_duty ds
 
--- that there is an offer; its channel is a matter of the channels' words
+-- that the goroutine has an offer, without its channel, which is in the image of channels
 abbrev pub nameless : Offer → Offer
 nameless NoOffer = NoOffer
 nameless (Standing o) = Standing 0
 nameless (Taken o) = Taken 0
 
--- Own pages and reserved pages are not said here: the memory's part of a record has which pages these are.
+-- Own pages and reserved pages are left out here: the memory's part of a record has which pages these are.
 abbrev pub slotted : (slot_of : ℕ → ℕ) → Holder → Holder
 slotted slot_of h = record {
   stakes = map slot_of h.stakes;

@@ -1,4 +1,5 @@
--- The duties of a goroutine that touch the count of a region: the end of a stake, and a stake for a coming child.
+-- The duties of a goroutine that touch the count of a region: the end of a stake, and a stake for a coming child. By the record it is
+-- known which slot's count changes. How many stakes are left, only the word shows.
 use Rattle.rgo_sound.specs.RegionMachine.Duties.{guards}
 use Rattle.rgo_sound.specs.RegionMachine.Machine.{Attend}
 use Rattle.rgo_sound.specs.RegionMachine.Regions.{RegionInfo, bound, is_live, one_fewer, with_added_stake, removed_once, unbind, with_info, without}
@@ -13,7 +14,7 @@ use Rattle.rgo_core_frames.specs.steps.Bookkept.{HasStep}
 use Rattle.rgo_sound.specs.Code.Code.{Code}
 use Rattle.rgo_sound.specs.RegionMachine.States.{RegionState}
 
--- the slot of the region in which a removal ends a stake, and the holder after it; none where it does nothing
+-- the slot of the region in which a removal ends a stake, and the holder after it; none if it ends no stake
 abbrev pub ended : Holder → Region → Option (ℕ × Holder)
 ended h GlobalRegion = None
 ended h (Numbered p) =
@@ -30,7 +31,7 @@ stake_ended h (Share k) = None
 stake_ended h (Protect k) = None
 stake_ended h (Unprotect k) = None
 
--- the slot of the region in which a child is to have a stake, and the holder after it; none where it has one already
+-- the slot of the region in which a child is to have a stake, and the holder after it; none if one is pending already
 abbrev pub shared_in : Holder → Region → Option (ℕ × Holder)
 shared_in h GlobalRegion = None
 shared_in h (Numbered p) = if list_any (nat_eq p) h.pending then None else Some (p, record h { pending = p ∷ h.pending })
@@ -43,7 +44,8 @@ stake_shared h (Unprotect k) = None
 stake_shared h (Remove k) = None
 stake_shared h (EndBase r) = None
 
--- the region machine has the duty, which changes the stakes of the live region of this slot, and the records fit after it
+-- The region machine has the duty, which changes the stakes of the live region of this slot, and the records fit after it. The region is
+-- determined by its slot, since it is live.
 pub record ChangesStakes
     (code : Code) (page_words : ℕ) (slot_of : ℕ → ℕ) (addresses : List ℕ) (s : RegionState) (g p : ℕ)
     (by : Holder → Duty → Option (ℕ × Holder)) (change : RegionInfo → RegionInfo) (records : List FramesRec) : Type 0 where

@@ -1,4 +1,4 @@
--- The constants of code: each is one of 64 bits.
+-- The constants of code: each has 64 bits. In the definitions an int may be any integer, and only this makes it fit a word.
 use Rattle.std.specs.Int.{w64}
 use Rattle.std.specs.Prelude.{All, FitsSigned, List, Option, Some, slice_get, ℕ, ℤ, ◌≡◌, ⊤}
 use Rattle.rgo_sound.specs.Code.Code.{Code, CodeFn, CodeInstr, Do}
@@ -7,7 +7,7 @@ use Rattle.rgo_sound.specs.Tac.Code as tac
 use Rattle.rgo_sound.specs.Typed.declared.actions.Action.TheVariants as action
 use Rattle.rgo_sound.specs.Typed.declared.actions.Action.{Action}
 
--- each constant is one of 64 bits
+-- each constant has 64 bits
 abbrev pub ConstantsFit : Code → Type 0
 ConstantsFit code =
     (n i : ℕ) (fn : CodeFn) (instr : CodeInstr) (to : Option ℕ) (k : ℤ) (from removes : List ℕ)

@@ -1,4 +1,4 @@
--- Ints are of 64 bits, in memory and in frames.
+-- Ints have 64 bits, in memory and in frames. A word can then show each of them, and a load gives back what was stored.
 use Rattle.rgo_sound.specs.Code.Code.{Code}
 use Rattle.rgo_sound.specs.Memory.Memory.{Channel, Memory, Object, SliceObject, StructObject}
 use Rattle.rgo_sound.specs.Memory.declared.values.Value.TheVariants as value
@@ -19,18 +19,18 @@ ValueFitsWord (value.Bool b) = Unit {0}
 ValueFitsWord value.Nil = Unit {0}
 ValueFitsWord (value.Object o) = Unit {0}
 
--- of an object: what it holds, the length of a slice, and the capacity of a channel
+-- in an object: what it holds, the length of a slice, and the capacity of a channel
 abbrev pub ObjectIntsFit : Object → Type 0
 ObjectIntsFit (StructObject cells) = Each ValueFitsWord cells
 ObjectIntsFit (SliceObject cells) = Each ValueFitsWord cells × ValueFitsWord (value.Int (pos (length cells)))
 ObjectIntsFit (Channel capacity queue closed) = Each ValueFitsWord queue × ValueFitsWord (value.Int (pos capacity))
 
--- of the objects and the package variables
+-- in the objects and the package variables
 pub record MemoryIntsFit (m : Memory) : Type 0 where
   pub objects : Each ObjectIntsFit m.heap
   pub variables : Each ValueFitsWord m.variables
 
--- of the variables of frames
+-- in the variables of frames
 abbrev pub FramesIntsFit : List TacFrame → Type 0
 FramesIntsFit frames = Each (λ (f : TacFrame). Each ValueFitsWord f.variables) frames
 
@@ -39,7 +39,8 @@ pub record IntsFit (p : TacState) : Type 0 where
   pub memory : MemoryIntsFit p.memory
   pub frames : Each FramesIntsFit p.goroutines
 
--- it is so at the start, and each step keeps it, where the constants of the code fit
+-- It is so at the start, and each step keeps it, if the constants of the code fit. It is an invariant of its own, since region safety
+-- does not need it.
 pub record IntsStay : Type 0 where
   pub start : (code : Code) → IntsFit (region_start code).plain
   pub step : (code : Code) (page_words : ℕ) (s t : RegionState) (event : Event) → ConstantsFit code → IntsFit s.plain

@@ -1,4 +1,5 @@
--- The names of a frame in a table, as it runs: at each name's number its region, or none.
+-- The names of a frame in a table: at each name's number its region, or none. In a table one load finds a name. The machine's list of
+-- bindings would be searched.
 use Rattle.rgo_sound.specs.RegionMachine.Regions.{Bindings, bound, unbind, without_all}
 use Rattle.rgo_sound.specs.RegionMachine.declared.regions.Region.{Region}
 use Rattle.std.specs.Prelude.{List, None, Option, Some, [], get_or, length, slice_set, ℕ, ◌<◌, ◌∷◌, ◌≡◌}
@@ -14,7 +15,7 @@ abbrev pub cleared : NameTable → List ℕ → NameTable
 cleared table [] = table
 cleared table (k ∷ ks) = cleared (slice_set table k None) ks
 
--- what duties and calls do to it: a name ends, names are left to a callee, a name is made
+-- What duties and calls do to it: a name ends, names are left to a callee, a name is made. These are all the changes there are.
 pub record TableLaws : Type 0 where
   pub unbinds : (names : Bindings) (table : NameTable) (k : ℕ) → TableShows names table
       → TableShows (unbind names k) (slice_set table k None)

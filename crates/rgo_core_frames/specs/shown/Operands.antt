@@ -1,4 +1,4 @@
--- What the words of operands say: which int they are, and which object they point to.
+-- What words of operands mean: which int they are, and which object they point to. The type of the variable decides, not the word.
 use Rattle.rgo_sound.specs.Code.Code.{CodeFn}
 use Rattle.rgo_sound.specs.Code.Erasure.{erased_fn, erased_op}
 use Rattle.rgo_sound.specs.Code.Types.{VariableHasType}
@@ -18,7 +18,7 @@ use Rattle.std.specs.Prelude.{Contains, List, Some, slice_get, suc, true, ℕ, �
 use Rattle.rgo_core_frames.specs.States.{AtInstruction}
 use Rattle.rgo_core_frames.specs.shown.WordFrames.{frame_word}
 
--- a variable of this type that the instruction reads
+-- A variable of this type that the instruction reads. It is live, so its word shows its value.
 pub record IsOperand (x : AtInstruction) (v : ℕ) (ty : «Type») : Type 0 where
   pub fn : CodeFn
   pub is_fn : code_function x.here.code x.w.function ≡ Some fn
@@ -39,7 +39,8 @@ pub record PointsTo (addresses : List ℕ) (s : RegionState) (h : Holder) (v : V
   pub owner : slice_get s.owners object ≡ Some region
   pub staked : HasStake s h region
 
--- a pointer, slice or channel: nil, or an object in a region in which the goroutine has a stake
+-- A pointer, slice or channel: nil, or an object in a region in which the goroutine has a stake. So the object cannot be removed before
+-- the goroutine's next step.
 abbrev pub PointerLaw : Type 0
 PointerLaw =
     (x : AtInstruction) (v : ℕ) (ty : «Type») → IsOperand x v ty → is_pointer_like ty ≡ true

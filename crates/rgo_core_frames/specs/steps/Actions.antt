@@ -1,4 +1,5 @@
--- Actions that touch words, given what the memory's part says of what they read or make.
+-- Actions that touch words of the table, given what the image of memory shows of what they read or make. So this crate needs no
+-- positions and no pages, and the crate above joins both parts.
 use Rattle.rgo_sound.specs.Code.Code.{Code, CodeFn, CodeInstr, Do}
 use Rattle.rgo_sound.specs.Code.Erasure.{erased, erased_fn}
 use Rattle.rgo_sound.specs.Code.Types.{VariableHasType}
@@ -33,8 +34,8 @@ after_action code c w ws instr to word = after_op code c.holder w ws instr.op (w
 abbrev pub acted_records : AtInstruction → Option ℕ → ℕ → List FramesRec
 acted_records x to word = slice_set x.here.records x.here.g (after_action x.here.code x.here.c x.w x.ws x.instr to word)
 
--- An action that does not trap. Of memory it has to be known that the word shows the action's value over the addresses of the
--- objects after it, of which a new one is the last; and that no two objects of live regions share an address.
+-- An action that does not trap. Two facts about memory are premises: the word shows the action's value over the addresses of the
+-- objects after it, of which a new one is the last; and no two objects of live regions share an address.
 abbrev pub ActionLaw : Type 0
 ActionLaw =
     (x : AtInstruction) (more : List ℕ) (to : Option ℕ) (action : Action) (from removes : List ℕ) (memory : Memory)
@@ -49,7 +50,7 @@ ActionLaw =
     → ObjectsDiffer (x.here.addresses ++ more) x.here.s.regions (x.here.s.owners ++ given.1)
     → PerformsInstr x (x.here.addresses ++ more) memory [] given (acted_records x to word)
 
--- A load that found this word. Of memory it has to be known what the word of an object of a live region shows.
+-- A load that found this word. What the word of an object of a live region shows is a premise about memory.
 abbrev pub FrameLoadLaw : Type 0
 FrameLoadLaw =
     (x : AtInstruction) (fn : CodeFn) (d k p a found : ℕ) (ty : «Type») (removes : List ℕ)

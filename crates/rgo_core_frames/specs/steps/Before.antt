@@ -1,4 +1,4 @@
--- A goroutine before an instruction, and what its record says of it.
+-- A goroutine before an instruction, and what follows from its record. Every law of an instruction begins here.
 use Rattle.rgo_sound.specs.Code.Code.{Code, CodeInstr}
 use Rattle.rgo_sound.specs.Code.Erasure.{erased_op}
 use Rattle.rgo_sound.specs.Memory.declared.values.Value.TheVariants as value
@@ -19,7 +19,8 @@ use Rattle.rgo_core_frames.specs.shown.WordFrames.{WordFrame, frame_word}
 use Rattle.rgo_core_frames.specs.shown.Words.{Shows}
 
 -- Goroutine g is before this instruction, owes nothing and has nothing to acknowledge; c is its record. What it reads is shown, has
--- its type, and points into regions in which it has a stake.
+-- its type, and points into regions in which it has a stake. Only what it reads: dead variables may have any words. The stake keeps the
+-- region live until the goroutine's own next step.
 pub record IsBefore
     (code : Code) (slot_of : ℕ → ℕ) (addresses : List ℕ) (s : RegionState) (g : ℕ) (c : FramesRec) (w : WordFrame)
     (ws : List WordFrame) (instr : CodeInstr) : Type 0 where

@@ -8,7 +8,8 @@ use Rattle.rgo_core_frames.specs.steps.Before.{IsBefore}
 use Rattle.rgo_core_frames.specs.States.{Here}
 use Rattle.rgo_core_frames.specs.shown.WordFrames.{WordFrame, bare}
 
--- its record has no offer; or it has one that was not taken, which only the words of the channel show
+-- Its record has no offer; or it has one that was not taken, which only the words of the channel show. If it was taken, the goroutine
+-- is past its send, and its record does not represent its frames.
 abbrev pub MayGo : Here → Type 0
 MayGo x =
     (x.c.holder.offer ≡ NoOffer) ⊎ ((h : Holder) → slice_get x.s.holders x.g ≡ Some h → may_go h.offer ≡ true)

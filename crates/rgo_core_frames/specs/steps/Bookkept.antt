@@ -1,4 +1,5 @@
--- A step of the region machine after which records fit, and what it leaves as it was.
+-- A step of the region machine after which records fit, and what it leaves as it was. What it leaves is stated with the step, because
+-- the images of memory and channels have to be shown for the same state afterwards.
 use Rattle.rgo_sound.specs.Code.Code.{Code}
 use Rattle.rgo_sound.specs.Machine.declared.picks.Pick.TheVariants.{One}
 use Rattle.rgo_sound.specs.Memory.Memory.{Memory}
@@ -35,8 +36,8 @@ pub record StaysElse (s t : RegionState) : Type 0 where
   pub owners : t.owners ≡ s.owners
   pub global_pages : t.global_pages ≡ s.global_pages
 
--- The region machine has this step, and these records fit after it. The regions and the mark are then these; else nothing has
--- changed but goroutines.
+-- The region machine has this step, and these records fit after it. The regions and the mark are then these. Otherwise only goroutines
+-- have changed.
 pub record HasStep
     (code : Code) (page_words : ℕ) (slot_of : ℕ → ℕ) (addresses : List ℕ) (s : RegionState) (event : Event)
     (regions : List RegionInfo) (mark : Option Mark) (records : List FramesRec) : Type 0 where
@@ -54,8 +55,7 @@ abbrev pub RegionStepsTo : Here → Event → List RegionInfo → Option Mark �
 RegionStepsTo x event regions mark records = HasStep x.code x.page_words x.slot_of x.addresses x.s event regions mark records
 
 -- The region machine has this instruction of goroutine g, and these records fit after it. The memory, the print and the
--- owners are then these, and the goroutine's own pages and reserved pages those of `given`; nothing else has changed but
--- goroutines.
+-- owners are then these, and the goroutine's own pages and reserved pages are those of `given`. Otherwise only goroutines have changed.
 pub record HasInstruction
     (code : Code) (page_words : ℕ) (slot_of : ℕ → ℕ) (addresses : List ℕ) (s : RegionState) (g : ℕ) (memory : Memory)
     (bytes : List ℕ) (given : Holder × List Region) (records : List FramesRec) : Type 0 where

@@ -1,5 +1,5 @@
--- Ends of a run but for the return of `main`, which is a local step: a trap, and an end that comes from no instruction. The records
--- fit after each.
+-- Ends of a run except the return of `main`, which is a local step: a trap, and an end that comes from no instruction. The records fit
+-- after each, since other goroutines may still make accesses after the end.
 use Rattle.rgo_sound.specs.Code.Code.{Do}
 use Rattle.rgo_sound.specs.Code.Erasure.{erased}
 use Rattle.rgo_sound.specs.Machine.declared.picks.End.TheVariants.{Trap as TrapEnd}
@@ -17,7 +17,7 @@ use Rattle.std.specs.Prelude.{List, Option, Some, ℕ, ◌≡◌}
 use Rattle.rgo_core_frames.specs.States.{AtInstruction, Here}
 use Rattle.rgo_core_frames.specs.steps.Bookkept.{RegionStepsTo}
 
--- a trap: the record stays
+-- A trap: the record stays, and the instruction is counted. The goroutine stays before it.
 abbrev pub TrapLaw : Type 0
 TrapLaw =
     (x : AtInstruction) (to : Option ℕ) (action : Action) (from removes : List ℕ) (trap : Trap)

@@ -22,7 +22,8 @@ event_by g (d ∷ ds) = Attend g
 abbrev pub event_of : ℕ → FramesRec → Event
 event_of g c = event_by g c.holder.duties
 
--- the end that it marks, by what was owed and the frames after it: `main` returns
+-- The end that it marks, by what was owed and the frames after it: `main` returns. This is the one local step that others can see, so
+-- the crate above makes it with an access to the clock.
 abbrev pub end_by_frames : ℕ → List Duty → List WordFrame → Option End
 end_by_frames zero [] [] = Some Exit
 end_by_frames zero [] (w ∷ ws) = None
@@ -38,7 +39,7 @@ LocalLaw =
     (x : Here) (d : FramesRec) → ConstantsFit x.code → local x.code x.c ≡ Some d
     → RegionStepsTo x (event_of x.g x.c) x.s.regions (mark_with_end x.s.mark (end_of x.g x.c d)) (slice_set x.records x.g d)
 
--- it keeps the stakes, those that are pending, and the offer
+-- It keeps the stakes, the pending ones, and the offer. By this the images of memory and channels stay, which depend on these.
 pub record KeepsStakes (c d : FramesRec) : Type 0 where
   pub stakes : d.holder.stakes ≡ c.holder.stakes
   pub pending : d.holder.pending ≡ c.holder.pending

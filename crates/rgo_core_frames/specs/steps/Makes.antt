@@ -12,7 +12,7 @@ use Rattle.rgo_core_frames.specs.regions.Slots.{slotted_region}
 use Rattle.rgo_core_frames.specs.States.{AtInstruction}
 use Rattle.rgo_core_frames.specs.shown.WordFrames.{WordFrame, bare}
 
--- the region of this slot, which is live, or Global
+-- the region of this slot, which is live, or Global: a stake there follows from the checked code
 pub record MakesAt (x : AtInstruction) (by_slot : Region) : Type 0 where
   pub region : Region
   pub slot_is : slotted_region x.here.slot_of region ≡ by_slot

@@ -1,4 +1,5 @@
--- A print: its bytes from the words and the static types of its operands.
+-- A print: its bytes from the words and the static types of its operands. They are fixed before the ticket is drawn, and stay so, since
+-- no other goroutine changes the frame.
 use Rattle.rgo_sound.specs.Code.Code.{CodeFn, Print, Slot}
 use Rattle.rgo_sound.specs.Machine.Lines.{printed_line}
 use Rattle.rgo_sound.specs.Memory.declared.values.Value.TheVariants as value

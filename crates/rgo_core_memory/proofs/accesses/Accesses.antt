@@ -1,4 +1,5 @@
--- Loads and stores are those of the region machine.
+-- Loads and stores are those of the region machine. What memory shows of the state after the instruction is that of a store to one
+-- object (`Stepped`), and the word is that of its cell (`Storing`). The region is live, since the instruction may touch the object.
 use Rattle.std.proofs.Common.{◌≡◌, ℕ, zero, suc, ◌+◌, ◌<◌, Bool, true, List, [], ◌∷◌, length, max, pos, Option, Some, None, Ok, nat_lt, if◌then◌else◌, slice_get, slice_set, refl, ap, sym, subst, ◌∙◌, arith, true≢false}
 use Rattle.rgo_sound.specs.Typed.declared.actions.Action.{Action}
 use Rattle.rgo_sound.specs.Typed.declared.actions.Action.TheVariants as action
@@ -30,7 +31,7 @@ pub image_of : {z : TableSizes} {words : List ℕ} {recs : List Rec} {x y : Grou
     → MemoryImage z words recs y places
 image_of {z} {words} {recs} {x} {y} {places} e k = subst (λ (u : Ground). MemoryImage z words recs u places) (sym e) k
 
--- what may be touched stands
+-- an object that may be touched is live
 stands_of : (s : RegionState) (o : ℕ) (object : Object) → slice_get s.plain.memory.heap o ≡ Some object → may_touch s (Some o) ≡ true
     → (r : Region) × IsLiveObject s.plain.memory.heap s.owners s.regions o object r
 stands_of s o object there live = go (slice_get s.owners o) refl live

@@ -1,4 +1,5 @@
--- Loads and stores of cells and of package variables.
+-- Loads and stores of cells and of package variables. A store changes one word, and no other word of an object is that one (`apart`),
+-- nor a word above a fill. So all parts but the values of this object stay.
 use Rattle.std.proofs.Common.{◌≡◌, ◌≢◌, ◌⊎◌, ℕ, ◌+◌, ◌<◌, ◌≤◌, List, set, slice_index, Some, slice_get, slice_set, refl, ap, sym, subst, ◌∙◌, inl, inr, ⊎_elim, arith}
 use Rattle.std.proofs.lemmas.Option.{same_Some}
 use mathlib.Core.Logic.{dite}

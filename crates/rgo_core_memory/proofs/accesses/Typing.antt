@@ -1,4 +1,5 @@
--- What the types of checked code say of the operands of loads and stores.
+-- What follows from the types of checked code for the operands of loads and stores. The invariant of region safety has the types
+-- of all values. The rest is a case for each action.
 use Rattle.std.proofs.Common.{◌≡◌, ℕ, List, [], ◌∷◌, map, length, pos, arith, Option, Some, None, slice_get, ap, sym, subst, ◌∙◌}
 use Rattle.std.proofs.lemmas.Option.{same_Some}
 use Rattle.rgo_sound.specs.Typed.declared.actions.Action.{Action}

@@ -1,4 +1,5 @@
--- A goroutine starts: its record has nothing of memory, and its pending stakes are its own.
+-- A goroutine starts: its record has nothing of memory, and its pending stakes are its own. Each part that looks for a record with
+-- something cannot find it in the new one (`only`), so it is as before.
 use Rattle.std.proofs.Common.{◌≡◌, ◌⊎◌, ℕ, suc, ◌<◌, List, [], ◌∷◌, ◌++◌, length, Some, slice_get, sym, subst, ◌∙◌, inl, inr, ⊎_elim, arith}
 use Rattle.rgo_sound.specs.RegionMachine.Objects.{fill_of}
 use Rattle.rgo_sound.specs.RegionMachine.declared.regions.Region.{Region}
@@ -32,7 +33,7 @@ module _ (z : TableSizes) (words : List ℕ) (recs : List Rec) (x : Ground) (pla
   was g c e = ⊎_elim (λ (t : (g < length recs) × HasRecord recs g c). inl t.1) (λ (t : (g ≡ length recs)
       × (first_record ≡ c)). inr t.1) (snoc_at recs first_record c g e)
 
-  -- of a record that has something
+  -- a record that has something is an old one
   only : (P : Rec → Type 0) → (P first_record → ⊥) → (g : ℕ) (c : Rec) → HasRecord more g c → P c → HasRecord recs g c
   only P never g c e p = ⊎_elim (λ (t : HasRecord recs g c). t) (λ (t : first_record ≡ c). absurd (never (subst P (sym t) p))) (was g c e)
 

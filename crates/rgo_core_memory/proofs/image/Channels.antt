@@ -1,4 +1,5 @@
--- Words and queues of channels, of which the memory says nothing but the capacity.
+-- Words and queues of channels, which memory does not determine, but for the capacity. Such a word is still a word of an object, so
+-- writing it must leave those of all others.
 use Rattle.std.proofs.Common.{◌≡◌, ◌≢◌, ℕ, ◌+◌, ◌<◌, List, set, Some, None, slice_get, slice_set, refl, ap, sym, subst, ◌∙◌, ⊎_elim, arith}
 use Rattle.rgo_sound.specs.Memory.declared.values.Value.{Value}
 use Rattle.rgo_sound.specs.Memory.Memory.{Object}
@@ -21,7 +22,7 @@ use Rattle.std.proofs.lemmas.Option.{same_Some}
 module _ (z : TableSizes) (words : List ℕ) (recs : List Rec) (x : Ground) (places : Where) (k : MemoryImage z words recs x places) (o : ℕ)
     (object : Object) (r : Region)
     (s : IsLiveObject x.heap x.owners x.regions o object r) where
-  -- a word of which nothing is said may be written
+  -- a word that the object does not determine may be written
   pub untold : (i v : ℕ) → i < words_of object → content object i ≡ None → MemoryImage z (set words (word_at z places o i) v) recs x places
   untold i v small none = record {
     w = record k.w { cell = put_two k.w.cell (places.spot o i).page (places.spot o i).offset v };
@@ -72,7 +73,7 @@ module _ (z : TableSizes) (words : List ℕ) (recs : List Rec) (x : Ground) (pla
           let e : q ≡ object = cc same in
           let w : Some u ≡ None = sym c ∙ (ap (content q) b ∙ (ap (λ (h : Object). content h i) e ∙ none)) in cc w
 
-  -- an object of which the same is said
+  -- another object with the same determined words
   pub requeued : (after : Object) → SameSize object after → ((j : ℕ) → content after j ≡ content object j)
       → MemoryImage z words recs (stored x o after) places
   requeued after same told =

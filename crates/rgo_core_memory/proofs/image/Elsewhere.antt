@@ -1,4 +1,4 @@
--- What concerns no word of memory.
+-- What concerns no word of memory: one row of `Words` changes that no part of the image reads.
 use Rattle.rgo_core_memory.specs.Elsewhere.{ClockKeeps, GroundKeeps, NumberKeeps}
 use Rattle.rgo_core_memory.proofs.accesses.Accesses.{image_of}
 use Rattle.rgo_core_memory.proofs.Writes.{writes_clock, writes_made}

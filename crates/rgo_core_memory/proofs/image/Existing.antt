@@ -1,4 +1,5 @@
--- The region machine has the step.
+-- The region machine has the step. Its definition is a chain of tests, and each of them is shown to be true: the object is live by
+-- region safety, the types by checked code, the room by what the goroutine knows of its page.
 use Rattle.std.proofs.Common.{◌≡◌, ℕ, ◌+◌, ◌<◌, ◌≤◌, Bool, true, false, not, ◌&&◌, List, [], ◌∷◌, ◌++◌, map, length, replicate, pos, Option, Some, None, option_and_then, option_map, slice_get, nat_le, if◌then◌else◌, refl, ap, sym, subst, ◌∙◌, ⊎_elim, arith}
 use Rattle.std.proofs.lemmas.Bool.Decides.{nat_tests}
 use Rattle.rgo_sound.specs.Typed.declared.actions.Action.{Action}

@@ -1,4 +1,4 @@
--- What the image says to the layers above.
+-- What the layers above need of the image, each from the file that proves it.
 use Rattle.rgo_core_memory.specs.Facts.{OneAddress, SpreadFollows, WordsFollow, WordsDiffer, AllFound}
 use Rattle.rgo_core_memory.specs.Ground.{ground_of}
 use Rattle.rgo_core_memory.proofs.objects.Addresses.{one_address, spread_follows, word_behind, word_inside, words_apart, free_apart}

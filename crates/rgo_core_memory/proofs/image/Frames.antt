@@ -1,4 +1,5 @@
--- What each part keeps where others change.
+-- What each part keeps if others change. Fewer live objects, or other cells in words of no object, leave a part that only speaks of
+-- live objects.
 use Rattle.std.proofs.Common.{◌≡◌, ℕ, zero, suc, ◌+◌, ◌<◌, ◌≤◌, List, length, max, Some, refl, subst, sym, ◌∙◌, arith}
 use Rattle.rgo_sound.specs.Memory.declared.values.Value.{Value}
 use Rattle.rgo_sound.specs.Memory.Memory.{Object, StructObject, SliceObject, Channel}
@@ -27,7 +28,7 @@ content_below (Channel capacity queue closed) zero v e = cc
 content_below (Channel capacity queue closed) (suc zero) v e = omega arith
 content_below (Channel capacity queue closed) (suc (suc i)) v e = cc
 
--- an object that stands stood before, with the same size
+-- each live object was live before, with the same size
 abbrev pub Alike : (heap more : List Object) (owners others : List Region) (regions infos : List RegionInfo) → Type 0
 Alike heap more owners others regions infos = (o : ℕ) (object : Object) (r : Region) → IsLiveObject more others infos o object r
     → (was : Object) × IsLiveObject heap owners regions o was r × SameSize was object

@@ -1,4 +1,5 @@
--- What each part keeps where one record changes.
+-- What each part keeps if one record changes. `was` splits a record of the new list into the changed one and an old one. Each lemma
+-- has premises about the changed one only for what its part reads.
 use Rattle.std.proofs.Common.{◌≡◌, ◌≢◌, ◌⊎◌, ℕ, zero, suc, ◌<◌, Bool, true, false, List, [], ◌∷◌, Some, slice_get, slice_set, nat_eq, if◌then◌else◌, refl, ap, sym, subst, ◌∙◌, inl, inr, ⊎_elim, arith}
 use Rattle.std.proofs.lemmas.Option.{same_Some}
 use mathlib.Core.Logic.{dite}
@@ -83,7 +84,7 @@ module _ (recs : List Rec) (g : ℕ) (c d : Rec) (own : HasRecord recs g c) wher
       (λ (t : (j ≢ g) × HasRecord recs j x). (x, t.1, refl))
       (was j x e)
 
-  -- who owns a page afterwards
+  -- which goroutine owns a page afterwards
   pub owns_was : (j : ℕ) (f : Fill) → Owns new j f → ((j ≡ g) × Within f d.fills) ⊎ ((j ≢ g) × Owns recs j f)
   owns_was j f w = ⊎_elim
       (λ (t : (j ≡ g) × (d ≡ w.0)). inl (t.0, subst (λ (y : Rec). Within f y.fills) (sym t.1) w.2))

@@ -1,4 +1,4 @@
--- The laws of steps that the region machine does not see.
+-- The laws of accesses that are no step of the region machine, each by the lemma of its file.
 use Rattle.rgo_core_memory.specs.Chains.{HangKeeps, LinkKeeps, LocatedKeeps, MeasuredKeeps, HeadKeeps, NextKeeps, FreeKeeps, ClearKeeps, SlotKeeps, TriedPageKeeps, TriedSlotKeeps, ForgetKeeps}
 use Rattle.rgo_core_memory.specs.Ground.{ground_of}
 use Rattle.rgo_core_memory.proofs.pages.Chaining.{hung, linked, head_loaded, next_loaded, page_freed, head_cleared}

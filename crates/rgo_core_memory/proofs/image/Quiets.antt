@@ -1,4 +1,5 @@
--- Steps of the region machine that no word of memory shows.
+-- Steps of the region machine that no word of memory shows. All that is to be proved is an equation: what memory shows (`Ground`) is the
+-- same after them. It goes by the kind of event, and for a duty by its tests.
 use Rattle.std.proofs.Common.{◌≡◌, ℕ, Bool, true, false, List, [], ◌∷◌, ◌++◌, map, length, append-nil, Option, Some, None, option_and_then, slice_get, slice_set, nat_eq, if◌then◌else◌, refl, ap, sym, subst, ◌∙◌, arith, true≢false}
 use Rattle.std.proofs.lemmas.Option.{same_Some}
 use Rattle.std.specs.List.{list_any}

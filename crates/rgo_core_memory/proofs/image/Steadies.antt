@@ -1,4 +1,4 @@
--- What region safety says of what the memory shows.
+-- What region safety guarantees of what memory shows, from its invariant.
 use Rattle.std.proofs.Common.{◌≡◌, ℕ, zero, suc, true, List, [], ◌∷◌, map, Some, slice_get, refl, sym, subst, arith}
 use Rattle.std.proofs.lemmas.Option.{same_Some}
 use Rattle.rgo_sound.specs.Code.Code.{Code}

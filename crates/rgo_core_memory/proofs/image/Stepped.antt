@@ -1,4 +1,5 @@
--- What an instruction of one goroutine does to what the memory shows.
+-- What an instruction of one goroutine does to what memory shows. Whether it makes an object decides between two forms, and the own
+-- page is filled further only in one of them.
 use Rattle.std.proofs.Common.{◌≡◌, ℕ, zero, suc, ◌≤◌, true, List, [], ◌∷◌, ◌++◌, map, length, append-nil, Option, Some, None, refl, sym, ap, ◌∙◌, subst, slice_get, slice_set, option_map, arith}
 use Rattle.std.proofs.lemmas.Option.{same_Some}
 use Rattle.rgo_sound.specs.Typed.declared.actions.Action.{Action}
@@ -144,7 +145,7 @@ slice_get_none [] i h = refl
 slice_get_none (x ∷ l) zero h = absurd (omega arith)
 slice_get_none (x ∷ l) (suc i) h = slice_get_none l i (omega arith)
 
--- where no object is made, only the memory differs
+-- if no object is made, only the memory differs
 pub only_memory : (code : Code) (page_words : ℕ) (s : RegionState) (g : ℕ) (frame : TacFrame) (op : CodeOp) (m : Memory) (t : RegionState)
     → Acts code page_words s g frame op m t → length m.heap ≡ length s.plain.memory.heap
     → ground_of t ≡ record (ground_of s) { heap = m.heap; variables = m.variables }

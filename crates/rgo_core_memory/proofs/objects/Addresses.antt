@@ -1,4 +1,5 @@
--- Addresses of live objects: each object has its own, and its words follow one another from there.
+-- Addresses of live objects: each object has its own, and its words follow one another from there. Some word of each object is at its
+-- address (`first_word`), and no two objects share a word. The hard case is a spread object, whose first word may be a page number.
 use Rattle.std.proofs.Common.{◌≡◌, ◌≢◌, ℕ, ◌+◌, ◌*◌, ◌<◌, false, List, ap, arith}
 use mathlib.Core.Logic.{dite}
 use native.Mathlib.Decide.{ℕ_discrete}
@@ -31,7 +32,7 @@ some_word (SliceObject cells) = omega arith
 some_word (Channel capacity queue closed) = omega arith
 
 module _ (z : TableSizes) (words : List ℕ) (recs : List Rec) (x : Ground) (places : Where) (k : MemoryImage z words recs x places) where
-  -- a word of an object that stands where the object begins
+  -- the word of an object that is at its address
   first_word : (o : ℕ) (a : Object) (r : Region) → IsLiveObject x.heap x.owners x.regions o a r → (i : ℕ)
       × (i < table_words z.page_words a) × ((places.spot o i).page ≡ (places.start o).page)
       × ((places.spot o i).offset ≡ (places.start o).offset)
@@ -54,7 +55,7 @@ module _ (z : TableSizes) (words : List ℕ) (recs : List Rec) (x : Ground) (pla
           let e = t.1.laid i.0 i.1 ∙ (i.2 ∙ sym t.1.begins) in
           (i.0, i.1, ap Spot.page e, ap Spot.offset e)
 
-  -- two objects of one address are one
+  -- two objects with the same address are the same
   pub one_address : (o p : ℕ) (a b : Object) (r q : Region) → IsLiveObject x.heap x.owners x.regions o a r → IsLiveObject x.heap x.owners x.regions p b q
       → address z places.start o ≡ address z places.start p → o ≡ p
   one_address o p a b r q s t e =
@@ -77,7 +78,7 @@ module _ (z : TableSizes) (words : List ℕ) (recs : List Rec) (x : Ground) (pla
       omega (arith, e, c, d, io, jo))))
 
   module _ (o i : ℕ) (object : Object) (r : Region) (s : IsLiveObject x.heap x.owners x.regions o object r) where
-    -- word i of an object that is not spread stands i words behind its address
+    -- word i of an object that is not spread is i words after its address
     pub word_behind : i < words_of object → is_spread z.page_words object ≡ false
         → word_at z places o i ≡ base z + (address z places.start o + i)
     word_behind small whole =
@@ -86,7 +87,7 @@ module _ (z : TableSizes) (words : List ℕ) (recs : List Rec) (x : Ground) (pla
         let e = t.1 in
         omega arith
 
-    -- a word lies in the table
+    -- a word is in the table
     pub word_inside : i < table_words z.page_words object → word_at z places o i < all_words z
     word_inside small = let t = k.lies.inside o i object r s small in let b = in_pages z.pages (places.spot o i).page z.page_words
         (places.spot o i).offset t.0 t.1 in omega arith
@@ -105,7 +106,7 @@ module _ (z : TableSizes) (words : List ℕ) (recs : List Rec) (x : Ground) (pla
       (λ ne. far (places.spot o i).page (places.spot p j).page z.page_words (places.spot o i).offset (places.spot p j).offset ne u.1 v.1
       (omega arith))
 
-  -- a word above the fill of an own page is no object's
+  -- a word above the fill of an own page belongs to no object
   pub free_apart : (g o i j : ℕ) (f : Fill) (a : Object) (r : Region) → Owns recs g f → IsLiveObject x.heap x.owners x.regions o a r
       → i < table_words z.page_words a
       → f.fill + j < z.page_words

@@ -1,4 +1,5 @@
--- The last opening store of an object's words is the allocation of the region machine.
+-- The last opening store of an object's words is the allocation of the region machine. `Making` has the image after it. Here the state
+-- after the instruction is shown to be the one of which that is the image: it gives the object the same region and fill.
 use Rattle.std.proofs.Common.{◌≡◌, ℕ, ◌+◌, ◌<◌, ◌≤◌, Bool, true, false, List, [], ◌∷◌, ◌++◌, map, length, set, replicate, pos, Option, Some, None, nat_le, if◌then◌else◌, slice_get, slice_set, refl, ap, sym, subst, ◌∙◌, ⊎_elim}
 use Rattle.std.proofs.lemmas.Option.{same_Some}
 use Rattle.rgo_sound.specs.Typed.declared.actions.Action.{Action}

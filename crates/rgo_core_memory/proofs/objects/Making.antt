@@ -1,4 +1,5 @@
--- With the last of its words an object is made.
+-- With the last of its words an object is made. The words are in place already, so only what the image ranges over changes: one object
+-- more, and its page filled further. An object afterwards is an old one or the new one (`which`), and all parts go by these cases.
 use Rattle.std.proofs.Common.{◌≡◌, ◌≢◌, ◌⊎◌, ℕ, zero, suc, ◌+◌, ◌*◌, ◌<◌, ◌≤◌, Bool, true, false, List, [], ◌∷◌, ◌++◌, length, set, Some, slice_get, slice_set, nat_eq, if◌then◌else◌, refl, ap, sym, subst, ◌∙◌, inl, inr, ⊎_elim, arith}
 use Rattle.std.proofs.lemmas.Option.{same_Some}
 use Rattle.rgo_sound.specs.Memory.declared.values.Value.{Value}
@@ -75,7 +76,7 @@ within_raised s n (e ∷ fs) f (zero, q) = let u : e ≡ f = same_Some e f q in 
 within_raised s n (e ∷ fs) f (suc i, q) = ⊎_elim (λ t. inl (t.0, (suc t.1.0, t.1.1))) (λ t. inr (t.0, (suc t.1.0, t.1.1))) (within_raised s n fs f
     (i, q))
 
--- plain values, and pointers to old objects, stand in words as before
+-- the words of plain values, and of pointers to old objects, are as before
 pub plain_code : (a b : ℕ → ℕ) (v : Value) → IsPlain v → encode a v ≡ encode b v
 plain_code a b (value.Int n) p = refl
 plain_code a b (value.Bool n) p = refl
@@ -154,7 +155,7 @@ module _ (z : TableSizes) (words : List ℕ) (recs : List Rec) (x : Ground) (pla
   new_start : (o : ℕ) → o ≡ n → start o ≡ record { page = f.page; offset = f.fill }
   new_start o e = put_here places.start n (record { page = f.page; offset = f.fill }) o e
 
-  -- what held before stands as before
+  -- what held before has the same words
   same_code : (v : Value) → ((p : ℕ) → v ≡ value.Object p → p < n) → encode (address z places.start) v ≡ encode (address z start) v
   same_code (value.Int m) l = refl
   same_code (value.Bool m) l = refl
@@ -369,7 +370,7 @@ module _ (z : TableSizes) (words : List ℕ) (recs : List Rec) (x : Ground) (pla
     };
   }
 
-  -- all words stand: the object is made
+  -- all words are stored: the object is made
   pub object_stands : MemoryImage z words recs2 (made_in_page x g h r object many) (record places { spot = spot; start = start })
   object_stands = record {
     w = k.w;

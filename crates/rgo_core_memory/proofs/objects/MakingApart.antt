@@ -1,4 +1,5 @@
--- With the last of its words a spread object is made.
+-- With the last of its words a spread object is made. As for an object in one page, but its pages were reserved and become pages of an
+-- object. No own page changes.
 use Rattle.std.proofs.Common.{◌≡◌, ◌≢◌, ◌⊎◌, ℕ, suc, ◌+◌, ◌-◌, ◌*◌, ◌<◌, ◌≤◌, true, false, List, [], ◌∷◌, ◌++◌, length}
 use Rattle.std.proofs.Common.{set, Some, slice_get, slice_set, slice_index, nat_lt, if◌then◌else◌, refl, ap, sym, subst, ◌∙◌}
 use Rattle.std.proofs.Common.{inl, inr, ⊎_elim, arith, true≢false}
@@ -102,7 +103,7 @@ module _ (z : TableSizes) (words : List ℕ) (recs : List Rec) (x : Ground) (pla
   new_start : (o : ℕ) → o ≡ n → start o ≡ lead_spot c.reserved.pages 0
   new_start o e = put_here places.start n (lead_spot c.reserved.pages 0) o e
 
-  -- what held before stands as before
+  -- what held before has the same words
   same_code : (v : Value) → ((p : ℕ) → v ≡ value.Object p → p < n) → encode (address z places.start) v ≡ encode (address z start) v
   same_code (value.Int m) l = refl
   same_code (value.Bool m) l = refl
@@ -115,7 +116,7 @@ module _ (z : TableSizes) (words : List ℕ) (recs : List Rec) (x : Ground) (pla
   ge_test : (a b : ℕ) → b ≤ a → nat_lt a b ≡ false
   ge_test a b l = grind (arith, nat_tests)
 
-  -- what the words of the new object hold
+  -- the values in the words of the new object
   holds : (i : ℕ) → i < table_words z.page_words object
       → k.w.cell (at i).page (at i).offset ≡ spread_opening object c.reserved.pages i
   holds i l = begun.laid i l (covers i l)
@@ -296,7 +297,7 @@ module _ (z : TableSizes) (words : List ℕ) (recs : List Rec) (x : Ground) (pla
     };
   }
 
-  -- all words stand: the object is made
+  -- all words are stored: the object is made
   pub object_strewn : MemoryImage z words recs2 (made_apart x g h r object)
       (record places { spot = spot; start = start })
   object_strewn = record {

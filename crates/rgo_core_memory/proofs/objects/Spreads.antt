@@ -1,4 +1,5 @@
--- Spread objects: how many words they take, and where these are.
+-- Spread objects: how many words they take, and where these are. It is arithmetic of quotients and remainders: two cells in one place
+-- have the same quotient and the same remainder. The page numbers have room in the lead page, by the bound on data pages.
 use Rattle.std.proofs.Common.{◌≡◌, ℕ, zero, suc, ◌+◌, ◌-◌, ◌/◌, ◌%◌, ◌<◌, ◌≤◌, Bool, true, false, List, [], ◌∷◌, length}
 use Rattle.std.proofs.Common.{Some, refl, sym, ap, ◌∙◌, nat_lt, if◌then◌else◌, arith, max, min, ◌*◌}
 use Rattle.std.proofs.Common.{slice_get, slice_index}
@@ -77,7 +78,7 @@ index_within [] k l = absurd (omega (arith, l))
 index_within (p ∷ ps) zero l = (0, refl)
 index_within (p ∷ ps) (suc k) l = let w = index_within ps k (omega (arith, l)) in (suc w.0, w.1)
 
--- of one object moved to another of the same size
+-- what holds of one object holds of another one of the same size
 pub spread_same : (z : TableSizes) (cell cell2 : ℕ → ℕ → ℕ) (spots : ℕ → Spot) (start : Spot) (was object : Object)
     (pages : List ℕ)
     → SameSize was object
@@ -311,7 +312,7 @@ spread_apart page_words object pages i j sp many d l m p o = by (view page_words
         let w : page_words * (k / page_words) ≡ page_words * (q / page_words) = ap (λ n. page_words * n) z in
         omega (arith, e, f, u, v, w, y)
 
--- a word that is the first of the lead page: of those before the cells, or the first page number
+-- the first word of the lead page: one before the cells, or the first page number
 pub lead_word : (page_words : ℕ) (object : Object) (pages : List ℕ) → is_spread page_words object ≡ true → (i : ℕ)
     × (i < table_words page_words object) × (spread_spot page_words object pages i ≡ lead_spot pages 0)
 lead_word page_words object pages sp = split (nat_lt 0 (words_before object)) before after

@@ -1,4 +1,4 @@
--- A word of a new spread object is stored.
+-- A word of a new spread object is stored. It is in a reserved page, in which no object is, so all objects keep their words.
 use Rattle.std.proofs.Common.{◌≡◌, ◌≢◌, ℕ, suc, ◌+◌, ◌<◌, List, [], ◌∷◌, length, set, Some, slice_get, slice_set, refl, ap, sym}
 use Rattle.std.proofs.Common.{subst, ◌∙◌, ⊎_elim, arith, true, false}
 use mathlib.Core.Logic.{dite}

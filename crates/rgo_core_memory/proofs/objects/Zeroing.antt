@@ -1,4 +1,4 @@
--- A word of a new object is stored.
+-- A word of a new object is stored. It is above the fill of an own page, where no object is, so all objects keep their words.
 use Rattle.std.proofs.Common.{◌≡◌, ◌≢◌, ℕ, ◌+◌, ◌<◌, ◌≤◌, List, [], ◌∷◌, length, set, Some, slice_set, refl, ap, sym, subst, ◌∙◌, ⊎_elim, arith}
 use mathlib.Core.Logic.{dite}
 use native.Mathlib.Decide.{ℕ_discrete}

@@ -1,4 +1,6 @@
--- A claimed page is hung on its chain, and a chain is given back: nothing of the region machine changes.
+-- A claimed page is hung on its chain, and a chain is returned: nothing of the region machine changes. `Chains` and `Releases` have the
+-- part on pages. Here it is put together with the rest. The hard case is the page that is freed: no live object is in it, since
+-- its slot is closed.
 use Rattle.std.proofs.Common.{◌≡◌, ◌≢◌, ℕ, suc, ◌<◌, List, ◌∷◌, length, drop, set, slice_index, slice_set, refl, ap, sym, subst, ◌∙◌, inl, inr, ⊎_elim, arith}
 use mathlib.Core.Logic.{dite}
 use native.Mathlib.Decide.{ℕ_discrete}
@@ -24,7 +26,7 @@ use Rattle.std.proofs.Common.{[]}
 use Rattle.std.proofs.Common.{Some, slice_get}
 use Rattle.rgo_core_memory.proofs.image.Keeping.{was}
 
--- a page without objects, and nobody's own, is freed
+-- a page is freed that has no objects and no owner
 own_freed : (z : TableSizes) (states : ℕ → ℕ) (cell : ℕ → ℕ → ℕ) (recs : List Rec) (heap : List Object) (owners : List Region)
     (regions : List RegionInfo) (slot : ℕ → ℕ) (spot : ℕ → ℕ → Spot) → Own z states cell recs heap owners regions slot spot
     → (p r : ℕ) → states p ≡ suc r → ((o : ℕ) (object : Object) (q : Region) → IsLiveObject heap owners regions o object q → slot_of z slot q ≢ r)
@@ -153,7 +155,7 @@ module _ (z : TableSizes) (words : List ℕ) (recs : List Rec) (x : Ground) (pla
         taken = taken_same recs g c d own z k.w.state k.w.count _ _ places.slot places.page k.taken refl refl;
       }
 
-  -- ---- a chain that is given back
+  -- ---- a chain that is returned
 
   module _ (r : ℕ) (closes : ClosesSlot c.give r) where
     closing : (r < z.slots) × (places.uses r ≡ Closing g)
@@ -169,7 +171,7 @@ module _ (z : TableSizes) (words : List ℕ) (recs : List Rec) (x : Ground) (pla
     first_at p e = let f = first_is k.w.state k.w.next k.w.head recs places.at places.chain places.link places.top k.pages g c c own refl r p e in
         k.pages.on r p (subst (λ (l : List ℕ). 0 < occurrences p l) (sym f.1) (let t = times_first p p f.0 refl in omega arith))
 
-    -- a page of a slot that is closed has no object in it, and is nobody's own
+    -- a page of a slot that is closed has no live object in it, and nobody owns it
     dead : (o : ℕ) (object : Object) (q : Region) → IsLiveObject x.heap x.owners x.regions o object q → slot_of z places.slot q ≢ r
     dead o object q s e = not_closed z words recs x places k q g c s.live own (subst (ClosesSlot c.give) (sym e) closes)
 
@@ -190,7 +192,7 @@ module _ (z : TableSizes) (words : List ℕ) (recs : List Rec) (x : Ground) (pla
     same_claims : (s : ℕ) → Claims c.claim s → StakeAt z x.held places.slot g s
     same_claims s q = k.filled.claims g s c own q
 
-    -- the same chain, otherwise given back, and nothing else
+    -- the same chain, returned a step further, and nothing else
     module _ (give : Give) (still : (s : ℕ) → ClosesSlot c.give s → ClosesSlot give s) (only : (s : ℕ) → ClosesSlot give s → ClosesSlot c.give s) where
       abbrev d : Rec
       d = with_give c give
@@ -229,7 +231,7 @@ module _ (z : TableSizes) (words : List ℕ) (recs : List Rec) (x : Ground) (pla
       (loads_head k.w.state k.w.next k.w.head recs places.at places.chain places.link places.top k.pages g c (with_give c (Giving r n)) own refl r
       (alone r closes) before (ap (Giving r) found))
 
-  -- the load of a page's next
+  -- the load of a page's next word
   pub next_loaded : (r p : ℕ) → c.give ≡ Giving r (suc p)
       → MemoryImage z words (slice_set recs g (with_give c (Past r (suc p) (slice_index words (next_at z p))))) x places
   next_loaded r p before =

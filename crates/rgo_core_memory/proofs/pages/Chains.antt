@@ -1,4 +1,5 @@
--- What the steps on pages and chains keep.
+-- What the accesses to pages and chains keep. Each changes one page, one slot and one record. For the others the old fact holds, and
+-- `was` and two lemmas on changed functions tell the cases apart. The hard one is the swap: the true next page moves into the record.
 use Rattle.std.proofs.Common.{◌≡◌, ◌≢◌, ◌⊎◌, ℕ, zero, suc, ◌<◌, ◌≤◌, List, [], ◌∷◌, slice_get, slice_set, refl, ap, sym, subst, ◌∙◌, inl, inr, ⊎_elim, arith}
 use Rattle.std.proofs.lemmas.Option.{same_Some}
 use Rattle.std.proofs.lemmas.Bool.Decides.{nat_tests}
@@ -48,7 +49,7 @@ module _ (states nexts heads : ℕ → ℕ) (recs : List Rec) (at : ℕ → Plac
   was : (j : ℕ) (x : Rec) → HasRecord new j x → ((j ≡ g) × (d ≡ x)) ⊎ ((j ≢ g) × HasRecord recs j x)
   was j x e = at_set recs g j d x e
 
-  -- what a giver told still holds
+  -- what the record of a goroutine that returns a chain shows still holds
   gives : (r t : ℕ) → ((j : ℕ) × (x : Rec) × HasRecord recs j x × ReturnsChain x.give r t) → ((j : ℕ) × (x : Rec) × HasRecord new j x × ReturnsChain x.give r t)
   gives r t q = dite (ℕ_discrete q.0 g)
       (λ e. let same : q.1 ≡ h = same_Some q.1 h (sym q.2 ∙ (ap (λ (n : ℕ). slice_get recs n) e
@@ -75,7 +76,7 @@ module _ (states nexts heads : ℕ → ℕ) (recs : List Rec) (at : ℕ → Plac
       (was j x e)
 
   module _ (p r : ℕ) (idle_before : h.claim ≡ Idle) (after : d.claim ≡ Got p r) (found : states p ≡ 0) where
-    -- nobody had it
+    -- it was nobody's
     was_free : at p ≡ Free
     was_free = go (at p) refl
       where
@@ -90,7 +91,7 @@ module _ (states nexts heads : ℕ → ℕ) (recs : List Rec) (at : ℕ → Plac
     other_page : (q : ℕ) (z : Place) → at q ≡ z → Free ≢ z → q ≢ p
     other_page q z e n same = n (sym was_free ∙ (ap at (sym same) ∙ e))
 
-    -- a claim, where it found 0
+    -- a claim that found 0
     pub claims : Pages (put_at states p (suc r)) nexts heads new at' chain link top
     claims = record {
       is_free = λ q e. dite (ℕ_discrete q p) (λ s. absurd (cc (put_here at p (Claimed g) q s, e))) (λ n. word_else states p q (suc r) n
@@ -168,14 +169,14 @@ module _ (states nexts heads : ℕ → ℕ) (recs : List Rec) (at : ℕ → Plac
     not_mine j x c e e' n s = let same : x ≡ h = same_Some x h (sym e ∙ (ap (λ (i : ℕ). slice_get recs i) s ∙ own)) in n (sym before
         ∙ (ap (λ (y : Rec). y.claim) (sym same) ∙ e'))
 
-    -- who closes the slot afterwards closed it before
+    -- a goroutine that closes the slot afterwards closed it before
     nobody_now : (j : ℕ) (x : Rec) → HasRecord new j x → ClosesSlot x.give r → ⊥
     nobody_now j x e q = ⊎_elim
         (λ (t : (j ≡ g) × (d ≡ x)). nobody g h own (subst (λ (z : Give). ClosesSlot z r) calm_same (subst (λ (y : Rec). ClosesSlot y.give r) (sym t.1) q)))
         (λ (t : (j ≢ g) × HasRecord recs j x). nobody j x t.1 q)
         (was j x e)
 
-    -- the page that a cursor tells is the first of its chain
+    -- the page at a cursor is the first of its chain
     cursor_on : (s c : ℕ) → top s ≡ suc c → 0 < occurrences c (chain s)
     cursor_on s c e = go (chain s) (subst (λ (z : ℕ). PageChain link z (chain s)) e (k.chains s))
       where
@@ -312,7 +313,7 @@ module _ (states nexts heads : ℕ → ℕ) (recs : List Rec) (at : ℕ → Plac
       gaves = gave_same;
     }
 
--- a page is freed: the first page of the chain is given back
+-- a page is freed: it is the first one of its chain
 module _ (states nexts heads : ℕ → ℕ) (recs : List Rec) (at : ℕ → Place) (chain : ℕ → List ℕ) (link top : ℕ
     → ℕ) (k : Pages states nexts heads recs at chain link top)
     (g : ℕ) (h d : Rec) (own : HasRecord recs g h) (same_claim : d.claim ≡ h.claim)

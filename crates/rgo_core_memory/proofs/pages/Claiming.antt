@@ -1,4 +1,5 @@
--- A page that was found free is claimed: the region machine takes a page.
+-- A page that was found free is claimed: the region machine takes a page. What both kinds of pages have in common is proved first, for
+-- any record and holder afterwards. An own page and a reserved one then differ in who owns it.
 use Rattle.std.proofs.Common.{◌≡◌, ◌≢◌, ◌⊎◌, ℕ, zero, suc, ◌+◌, ◌<◌, ◌≤◌, true, List, [], ◌∷◌, length, set, slice_index, Some, slice_get, slice_set, sum_by, refl, ap, sym, subst, ◌∙◌, inl, inr, ⊎_elim, arith}
 use Rattle.std.proofs.lemmas.Option.{same_Some}
 use Rattle.std.proofs.lemmas.List.Sums.{sum_by-cons}
@@ -74,7 +75,7 @@ module _ (z : TableSizes) (words : List ℕ) (recs : List Rec) (x : Ground) (pla
   stake : StakeAt z x.held places.slot g s
   stake = (h, r, hold, used, refl)
 
-  -- ---- whatever the record and the goroutine have then
+  -- ---- for any record and holder afterwards
 
   module _ (d : Rec) (h2 : Held) (claim : d.claim ≡ Got p s) (give : d.give ≡ c.give)
       (tried : d.tried_pages ≡ c.tried_pages) (tried_slots : d.tried_slots ≡ c.tried_slots)
@@ -315,7 +316,7 @@ module _ (z : TableSizes) (words : List ℕ) (recs : List Rec) (x : Ground) (pla
       };
     }
 
-    -- as many as before, and one
+    -- one more than before
     counted : h.reserved + 1 ≡ length reserving.reserved.pages
     counted = by (length c.reserved.pages) refl ∙ sym (length-append c.reserved.pages (p ∷ []))
       where

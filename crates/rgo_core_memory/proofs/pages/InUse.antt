@@ -1,4 +1,5 @@
--- How many pages and slots live regions have: each page that is claimed and each slot that is used counts once.
+-- How many pages and slots live regions have: each page that is claimed and each slot that is used counts once. The sum over regions
+-- is at most n by induction over n: page n counts for one slot at most, and no two live regions have the same slot.
 use Rattle.std.proofs.Common.{◌≡◌, ◌≢◌, ℕ, zero, suc, ◌+◌, ◌-◌, ◌<◌, ◌≤◌, ◌==◌, Bool, true, false, nat_lt, List, [], ◌∷◌, length, Some, if◌then◌else◌, slice_get, slice_index, sum_by, count_by, refl, ap, sym, subst, ◌∙◌, arith}
 use Rattle.std.proofs.lemmas.Bool.Decides.{nat_tests}
 use Rattle.std.proofs.lemmas.List.Sums.{sum_by-cons}
@@ -35,7 +36,7 @@ when_live i m l = go (is_removed i) (grind (arith, nat_tests))
     go : (b : Bool) → b ≡ false → (if b then 0 else m) ≡ m
     go b e = rw e refl
 
--- f has a number for each slot, which grows with n; `k` is the number of the first region of the list
+-- f n has a number for each slot, which grows with n; `k` is the number of the first region of the list
 module _ (f : ℕ → ℕ → ℕ) (slot : ℕ → ℕ) where
   abbrev pub live_sum : (n k : ℕ) → List RegionInfo → ℕ
   live_sum n k [] = 0
@@ -142,7 +143,7 @@ below_one n s = go (nat_lt s n)
     go true = omega arith
     go false = omega arith
 
--- no more live regions than there are
+-- at most as many live regions as slots
 pub live_many : (slot : ℕ → ℕ) (n k : ℕ) (is : List RegionInfo) → live_sum below slot n k is + count_by is_removed is ≤ length is
 live_many slot n k [] = omega arith
 live_many slot n k (i ∷ is) =
@@ -155,9 +156,9 @@ live_many slot n k (i ∷ is) =
     one true = omega arith
     one false = let z = below_one n (slot k) in omega (arith, z)
 
--- ---- no more than there are
+-- ---- the bounds
 
--- what is counted of the first n grows by one at most with each of them, and not at all with one of them
+-- the number for the first n grows by at most one with each of them, and with one of them not at all
 one_left : (total : ℕ → ℕ) (p n : ℕ) → p < n → total 0 ≡ 0 → ((m : ℕ) → total (suc m) ≤ suc (total m)) → total (suc p) ≤ total p → total n < n
 one_left total p n l none one same = go n l
   where
@@ -267,7 +268,7 @@ live_all slot n k (i ∷ is) low =
         let l = low 0 i refl (grind (arith, nat_tests)) in
         let w = below_low n (slot k) (subst (λ (m : ℕ). slot m < n) z l) in omega (arith, w)
 
--- ---- where there is one left
+-- ---- if one is left
 
 module _ (z : TableSizes) (words : List ℕ) (recs : List Rec) (x : Ground) (places : Where) (k : MemoryImage z words recs x places) where
   apart : Apart places.slot 0 x.regions
@@ -307,7 +308,7 @@ module _ (z : TableSizes) (words : List ℕ) (recs : List Rec) (x : Ground) (pla
     none_first : claims 0 ≡ 0
     none_first = let a = none_counted (pages_at k.w.state) places.slot (λ s. refl) 0 x.regions in omega (arith, a)
 
-    -- where a page is free, fewer are in use than there are
+    -- if a page is free, fewer are in use than there are
     page_left : (x.global_pages + sum_by (λ (i : RegionInfo). i.pages) x.regions) - sum_by pages_if_removed x.regions < z.pages
     page_left =
         let a = one_left claims p z.pages small none_first one_claim none_at in
@@ -327,7 +328,7 @@ module _ (z : TableSizes) (words : List ℕ) (recs : List Rec) (x : Ground) (pla
         let same = ap k.w.count w in
         omega (arith, t, u, same)
 
-    -- where a slot is free, fewer regions are live than there are slots
+    -- if a slot is free, fewer regions are live than there are slots
     slot_left : length x.regions - count_by is_removed x.regions < z.slots
     slot_left =
         let a = one_left (λ n. live_sum below places.slot n 0 x.regions) s z.slots small

@@ -1,4 +1,4 @@
--- The pages that chains have still to free.
+-- The pages that chains have still to free. A sum over slots, of which an access changes the term of one slot.
 use Rattle.std.proofs.Common.{◌≡◌, ◌≢◌, ℕ, zero, suc, ◌+◌, ◌<◌, List, [], set, slice_index, refl, ap, sym, subst, ◌∙◌, arith}
 use Rattle.std.proofs.lemmas.List.{get_or-set_other}
 use mathlib.Core.Logic.{dite}
@@ -25,7 +25,7 @@ owed_same uses more states others pages zero h = refl
 owed_same uses more states others pages (suc n) h = let a = h n (omega arith) in let b = owed_same uses more states others pages n (λ s l. h s
     (omega arith)) in omega (arith, a, b)
 
--- where one slot owes another number
+-- if the term of one slot changes
 owed_one : (uses more : ℕ → Use) (states others : ℕ → ℕ) (pages n r : ℕ) → r < n
     → ((s : ℕ) → s ≢ r → owed_at (more s) (pages_at others pages s) ≡ owed_at (uses s) (pages_at states pages s))
     → owed more others pages n + owed_at (uses r) (pages_at states pages r) ≡ owed uses states pages n + owed_at (more r) (pages_at others pages r)

@@ -1,4 +1,4 @@
--- How many pages are claimed for a slot, after a page is claimed or freed.
+-- How many pages are claimed for a slot, after a page is claimed or freed: by induction over the pages, each with one test.
 use Rattle.std.proofs.Common.{◌≡◌, ◌≢◌, ℕ, zero, suc, ◌<◌, ◌==◌, Bool, true, false, List, Some, slice_get, if◌then◌else◌, refl, ap, sym, ◌∙◌, arith}
 use Rattle.std.proofs.lemmas.Bool.Decides.{nat_tests}
 use Rattle.std.proofs.lemmas.Option.{same_Some}
@@ -24,7 +24,7 @@ none_more_at states n s e = go (states n == suc s) (grind (arith, nat_tests))
     go : (b : Bool) → b ≡ false → (if b then suc (pages_at states n s) else pages_at states n s) ≡ pages_at states n s
     go b e = rw e refl
 
--- where no other page is claimed for the slot, or no longer
+-- if no other page is newly claimed for the slot, and none is freed
 pub same_at : (states more : ℕ → ℕ) (n s : ℕ) → ((p : ℕ) → p < n → states p ≡ suc s → more p ≡ suc s) → ((p : ℕ) → p < n → more p ≡ suc s
     → states p ≡ suc s)
     → pages_at more n s ≡ pages_at states n s

@@ -1,4 +1,5 @@
--- A goroutine has another own page in a region, or has filled it further.
+-- A goroutine has another own page in a region, or has filled it further. Its fills are a list by region, so those of other regions
+-- stay by the test on regions.
 use Rattle.std.proofs.Common.{◌≡◌, ◌≢◌, ◌⊎◌, ℕ, Bool, true, false, List, [], ◌∷◌, length, Some, None, slice_get, slice_set, nat_eq, refl, ap, sym, subst, ◌∙◌, inl, inr, ⊎_elim, arith, true≢false, if◌then◌else◌}
 use Rattle.std.proofs.lemmas.Option.{same_Some}
 use mathlib.Core.Logic.{dite}

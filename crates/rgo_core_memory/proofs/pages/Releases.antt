@@ -1,4 +1,5 @@
--- A chain is given back, page by page.
+-- A chain is returned, page by page. All accesses change only the stage of one record (`give_change`), so each has to show what its new
+-- stage says of the true head. Nobody hangs a page there meanwhile, by a premise that stakes provide.
 use Rattle.std.proofs.Common.{◌≡◌, ◌≢◌, ◌⊎◌, ℕ, suc, List, [], ◌∷◌, slice_get, slice_set, refl, ap, sym, subst, ◌∙◌, inl, inr, ⊎_elim, arith}
 use Rattle.std.proofs.lemmas.Option.{same_Some}
 use mathlib.Core.Logic.{dite}
@@ -35,7 +36,7 @@ module _ (states nexts heads : ℕ → ℕ) (recs : List Rec) (at : ℕ → Plac
         ∙ ap (λ (y : Rec). y.claim) t.1,
   )) (λ (t : (j ≢ g) × HasRecord recs j x). (x, t.1, refl)) (at_set recs g j d x e)
 
-  -- only who gives what changes, and perhaps a head
+  -- only the stage of one record changes, and perhaps a head
   give_change : (more : ℕ → ℕ)
       → ((s : ℕ) → (top s ≡ more s) ⊎ ((j : ℕ) × (x : Rec) × HasRecord new j x × ReturnsChain x.give s (top s)))
       → ((s c : ℕ) → ReturnsChain d.give s c → top s ≡ c) → ((s p q : ℕ) → d.give ≡ Past s (suc p) q → link p ≡ q) → ((s : ℕ) → d.give ≡ Gave s
@@ -67,7 +68,7 @@ module _ (states nexts heads : ℕ → ℕ) (recs : List Rec) (at : ℕ → Plac
         (at_set recs g j d x e);
   }
 
-  -- a giver that is not this hand
+  -- a slot that this record does not return
   still : (s : ℕ) → ((c : ℕ) → ReturnsChain h.give s c → ⊥) → (top s ≡ heads s) ⊎ ((j : ℕ) × (x : Rec) × HasRecord new j x × ReturnsChain x.give s (top s))
   still s none = ⊎_elim (λ u. inl u)
       (λ u. inr (
@@ -79,7 +80,7 @@ module _ (states nexts heads : ℕ → ℕ) (recs : List Rec) (at : ℕ → Plac
       ))
       (k.tops s)
 
-  -- the page that a cursor tells is the first of its chain
+  -- the page at a cursor is the first of its chain
   pub first_is : (s c : ℕ) → top s ≡ suc c → (ps : List ℕ) × (chain s ≡ c ∷ ps)
   first_is s c e = go (chain s) refl (subst (λ (z : ℕ). PageChain link z (chain s)) e (k.chains s))
     where
@@ -117,7 +118,7 @@ module _ (states nexts heads : ℕ → ℕ) (recs : List Rec) (at : ℕ → Plac
         is_head = ⊎_elim (λ u. u) (λ u. let s = alone u.0 u.1 u.2 (closes_of u.1.give r (top r) u.3) in absurd (subst (λ (y : Give). ReturnsChain y r
             (top r)) (ap (λ (y : Rec). y.give) (mine u.0 u.1 s u.2) ∙ before) u.3)) (k.tops r)
 
-    -- the load of a page's next
+    -- the load of a page's next word
     pub loads_next : (p : ℕ) → h.give ≡ Giving r (suc p) → d.give ≡ Past r (suc p) (nexts p) → ((j s o : ℕ) (x : Rec) → HasRecord recs j x
         → x.claim ≡ Hung p s o → ⊥) → Pages states nexts heads new at chain link top
     loads_next p before after unclaimed = give_change heads

@@ -1,4 +1,4 @@
--- A goroutine has reserved another number of pages, and fills its own pages as before.
+-- A goroutine has reserved another number of pages, and fills its own pages as before. Its stakes stay, so it uses the same regions.
 use Rattle.std.proofs.Common.{◌≡◌, ◌≢◌, ◌⊎◌, ℕ, ◌<◌, List, length, Some, slice_get, slice_set, refl, ap, sym, subst, ◌∙◌}
 use Rattle.std.proofs.Common.{⊎_elim, arith}
 use Rattle.std.proofs.lemmas.Option.{same_Some}
@@ -74,7 +74,7 @@ module _ (z : TableSizes) (recs : List Rec) (others : List Held) (many : ℕ) (s
       ))
       (λ n. (w.0, stays recs g c d own j w.0 n w.1, w.2))
 
-  -- of a holder afterwards, one from before with the same stakes and fills
+  -- a holder afterwards has one before it with the same stakes and fills
   before : (i : ℕ) (y : Held) → slice_get held i ≡ Some y
       → (y1 : Held) × (slice_get others i ≡ Some y1) × (y1.fills ≡ y.fills) × ((q : Region) → MayUseRegion y q → MayUseRegion y1 q)
   before i y e = ⊎_elim

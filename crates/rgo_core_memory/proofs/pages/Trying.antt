@@ -1,4 +1,5 @@
--- A page, or a slot, was found used.
+-- A page, or a slot, was found in use. No word changes, and the record only remembers more. `Taken` has the step of the page already,
+-- since its state is not 0.
 use Rattle.std.proofs.Common.{◌≡◌, ◌≢◌, ℕ, zero, suc, ◌<◌, List, [], ◌∷◌, length, slice_index, slice_set, refl, sym, subst, ◌∙◌, inl, inr, ⊎_elim, arith}
 use mathlib.Core.Logic.{dite}
 use native.Mathlib.Decide.{ℕ_discrete}

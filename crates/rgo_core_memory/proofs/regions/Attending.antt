@@ -1,4 +1,5 @@
--- The steps on regions and pages are those of the region machine.
+-- The steps on regions and pages are those of the region machine. The duty is the first one of the holder, and what it does to what
+-- memory shows is an equation, by the tests that the law has as premises.
 use Rattle.std.proofs.Common.{◌≡◌, ℕ, ◌+◌, Bool, true, false, ◌&&◌, List, [], ◌∷◌, ◌++◌, map, length, Option, Some, None, option_and_then, slice_get, slice_set, nat_eq, if◌then◌else◌, refl, ap, sym, subst, ◌∙◌, ⊎_elim, true≢false}
 use Rattle.std.proofs.lemmas.Option.{same_Some}
 use Rattle.std.specs.List.{list_any}
@@ -161,7 +162,7 @@ last_leave_keeps code z words recs s t g j h c all places k hold own leaves e fr
 
 -- ---- pages
 
--- where an instruction makes an object, the goroutine has a stake
+-- the goroutine has a stake in the region in which its next instruction makes an object
 pub makes_used : (code : Code) (s : RegionState) (g : ℕ) (h : Holder) (r : Region) → AllGood code s → slice_get s.holders g ≡ Some h
     → NextMakesObjectIn code s g h r → MayUseRegion (held_of h) r
 makes_used code s g h r all hold m = by r (making_class top.stands.fn (top_names h.environments) m.2.op r

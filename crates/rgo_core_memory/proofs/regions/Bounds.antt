@@ -1,4 +1,5 @@
--- A region has at most two stakes for each goroutine, so its count stays small.
+-- A region has at most two stakes for each goroutine, so its count stays small: one of its own and one pending. The pending one is at
+-- most one by induction over the duties, since a second share for the same region adds none.
 use Rattle.std.proofs.Common.{◌≡◌, ◌≢◌, ℕ, zero, suc, ◌+◌, ◌≤◌, Bool, true, false, List, [], ◌∷◌, map, length, slice_index, Option, Some, None, slice_get, nat_eq, if◌then◌else◌, refl, subst, arith}
 use Rattle.std.specs.List.{list_any}
 use Rattle.rgo_sound.specs.Code.Code.{Code}
@@ -84,7 +85,7 @@ stakes_small code s j info all e =
     let c = total_small (λ (h : Holder). times_in j h.pending) s.holders (λ g h q. pending_once code (frames_of s.plain g) h j (fine.each g h q)) in
     omega (arith, a, b, c)
 
--- what stands in the count of a live region
+-- the count of a live region
 pub count_small : (code : Code) (z : TableSizes) (words : List ℕ) (recs : List Rec) (s : RegionState) (places : Where) (j : ℕ) → AllGood code s
     → StateImage z words recs s places
     → is_live s.regions (Numbered j) ≡ true → slice_index words (count_at z (places.slot j)) ≤ suc (length s.holders + length s.holders)

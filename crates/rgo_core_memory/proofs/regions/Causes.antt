@@ -1,5 +1,5 @@
--- Where a search found every page claimed, as many were taken as there are; where it found every slot used, as many regions
--- were created.
+-- If a search found every page claimed, as many were taken as there are; if it found every slot in use, as many regions were created. By
+-- the pigeonhole principle: the pages of the steps so far, as a list, have every page, so it is at least as long.
 use Rattle.std.proofs.Common.{◌≡◌, ℕ, zero, suc, ◌+◌, ◌<◌, ◌≤◌, List, [], ◌∷◌, length, refl, ap, sym, ◌∙◌, inr, arith}
 use mathlib.Core.Logic.{dite}
 use native.Mathlib.Decide.{ℕ_discrete}
@@ -10,7 +10,7 @@ use Rattle.rgo_core_memory.specs.Pages.{occurrences}
 use Rattle.rgo_core_memory.specs.Image.{MemoryImage, Where}
 use Rattle.rgo_core_memory.proofs.pages.Chains.{times_first, times_else}
 
--- how often the numbers below n stand in a list
+-- how often the numbers below n occur in a list
 abbrev spread : ℕ → List ℕ → ℕ
 spread zero l = 0
 spread (suc n) l = occurrences n l + spread n l
@@ -33,7 +33,7 @@ spread_most : (n : ℕ) (l : List ℕ) → spread n l ≤ length l
 spread_most n [] = let a = spread_none n in omega arith
 spread_most n (y ∷ l) = let a = spread_cons n y l in let b = spread_most n l in omega arith
 
--- a list in which each of n numbers stands has at least n elements
+-- a list in which each of n numbers occurs has at least n elements
 onto : (n : ℕ) (l : List ℕ) → ((r : ℕ) → r < n → 0 < occurrences r l) → n ≤ length l
 onto n l all = let a = go n (λ r h. all r h) in let b = spread_most n l in omega arith
   where

@@ -1,4 +1,4 @@
--- Counts: a region is created, its stakes are shared and end, and its slot is free again.
+-- Counts: a slot is free again. Its chain is empty and its head 0 by the stage of the record, as a vacant slot requires.
 use Rattle.std.proofs.Common.{◌≡◌, ◌≢◌, ℕ, suc, ◌<◌, List, length, set, slice_set, refl, ap, sym, subst, ◌∙◌, inl, inr, ⊎_elim, arith}
 use mathlib.Core.Logic.{dite}
 use native.Mathlib.Decide.{ℕ_discrete}

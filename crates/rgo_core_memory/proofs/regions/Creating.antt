@@ -1,4 +1,5 @@
--- A region is created at a slot that was found free.
+-- A region is created at a slot that was found free. Count 0 means vacant, so no region, no page and no goroutine is at this slot, and
+-- giving it to the new region disturbs nothing. The new region's number is above all others.
 use Rattle.std.proofs.Common.{◌≡◌, ◌≢◌, ◌⊎◌, ℕ, suc, ◌+◌, ◌<◌, Bool, true, false, List, [], ◌∷◌, ◌++◌, length, length-append, set, slice_index, Some, slice_get, slice_set, nat_eq, sum_by, refl, ap, sym, subst, ◌∙◌, inl, inr, ⊎_elim, arith, true≢false, if◌then◌else◌}
 use Rattle.std.proofs.lemmas.Option.{same_Some}
 use Rattle.std.proofs.lemmas.List.Sums.{sum_by_push}
@@ -129,7 +130,7 @@ module _ (z : TableSizes) (words : List ℕ) (recs : List Rec) (x : Ground) (pla
   uses_more GlobalRegion u = tt
   uses_more (Numbered i) u = more_in i j h.stakes u
 
-  -- what is used still, with its slot
+  -- a region that is used is still used, with the same slot
   still : (i : ℕ) (y : Held) (q : Region) → slice_get x.held i ≡ Some y → MayUseRegion y q
       → (y2 : Held) × (slice_get held i ≡ Some y2) × MayUseRegion y2 q × (slot_of z slot q ≡ slot_of z places.slot q) × (y2.fills ≡ y.fills)
   still i y q e u = dite (ℕ_discrete i g)
@@ -144,7 +145,7 @@ module _ (z : TableSizes) (words : List ℕ) (recs : List Rec) (x : Ground) (pla
       ))
       (λ n. (y, set_else x.held g i h2 n ∙ e, u, live_slot q (uses_live z words recs x places k steady i y q e u), refl))
 
-  -- what is used and filled was used before
+  -- a region that is used and filled was used before
   before : (i n : ℕ) (y : Held) (q : Region) → slice_get held i ≡ Some y → MayUseRegion y q → fill_of y.fills q ≡ Some n
       → (y1 : Held) × (slice_get x.held i ≡ Some y1) × MayUseRegion y1 q × (fill_of y1.fills q ≡ Some n)
   before i n y q e u f = ⊎_elim

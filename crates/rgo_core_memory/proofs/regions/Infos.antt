@@ -1,4 +1,4 @@
--- One region changes: what lives, what counts say, and how many pages were taken.
+-- One region changes: which regions are live, what counts mean, and how many pages were taken.
 use Rattle.std.proofs.Common.{◌≡◌, ◌≢◌, ℕ, suc, ◌<◌, true, List, Some, slice_get, option_map, refl, ap, sym, subst, ◌∙◌, arith}
 use mathlib.Core.Logic.{dite}
 use native.Mathlib.Decide.{ℕ_discrete}
@@ -21,7 +21,7 @@ pub info_else : (regions : List RegionInfo) (k j : ℕ) (change : RegionInfo →
     → slice_get (with_info regions k change) j ≡ slice_get regions j
 info_else regions k j change n = with_info_other regions k j change (ne_of k j (λ e. n (sym e)))
 
--- what lives after a change of a live region lived before
+-- what is live after a change of a live region was live before
 pub info_fewer : (regions : List RegionInfo) (k : ℕ) (change : RegionInfo → RegionInfo) → is_live regions (Numbered k) ≡ true
     → (r : Region) → is_live (with_info regions k change) r ≡ true → is_live regions r ≡ true
 info_fewer regions k change live GlobalRegion e = refl
@@ -34,7 +34,7 @@ pub stands_fewer : (heap : List Object) (owners : List Region) (regions infos : 
     → (o : ℕ) (object : Object) (r : Region) → IsLiveObject heap owners infos o object r → IsLiveObject heap owners regions o object r
 stands_fewer heap owners regions infos fewer o object r s = record { there = s.there; owner = s.owner; live = fewer r s.live }
 
--- a live region changes and lives on, and its count with it
+-- a live region changes and stays live, and its count changes with it
 pub counts_change : (z : TableSizes) (counts more top : ℕ → ℕ) (recs : List Rec) (regions : List RegionInfo) (slot : ℕ → ℕ) (uses : ℕ → Use)
     (k : ℕ) (change : RegionInfo → RegionInfo) (info : RegionInfo) → SlotCounts z counts top recs regions slot uses → slice_get regions k ≡ Some info
     → 0 < info.stakes

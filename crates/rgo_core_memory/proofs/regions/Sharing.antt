@@ -1,4 +1,5 @@
--- A stake more in a region, and the end of a stake.
+-- A stake more in a region, and the end of a stake. The count is the number of stakes plus 1 (`found`), so the number found decides
+-- whether the stake was the last. Then the region's objects are no longer live, and all parts that speak of them become weaker.
 use Rattle.std.proofs.Common.{◌≡◌, ◌≢◌, ◌⊎◌, ℕ, zero, suc, ◌+◌, ◌-◌, ◌<◌, true, List, length, set, slice_index, Some, slice_get, slice_set, sum_by, refl, ap, sym, subst, ◌∙◌, ⊎_elim, arith, true≢false}
 use Rattle.std.proofs.lemmas.Option.{same_Some}
 use mathlib.Core.Logic.{dite}
@@ -49,7 +50,7 @@ module _ (z : TableSizes) (words : List ℕ) (recs : List Rec) (x : Ground) (pla
   abbrev n : ℕ
   n = slice_index words (count_at z s)
 
-  -- what is found there is the number of stakes, with one added
+  -- the number found is the number of stakes plus 1
   pub found : n ≡ suc (info.0).stakes
   found =
       let t = k.counts.living s j slotted.0 slotted.1 in
@@ -120,7 +121,7 @@ module _ (z : TableSizes) (words : List ℕ) (recs : List Rec) (x : Ground) (pla
     fewer_fills : (f : Fill) → Within f d.fills → Within f c.fills × (f.slot ≢ s)
     fewer_fills f w = dropped_within s c.fills f (subst (λ (l : List Fill). Within f l) fills w)
 
-    -- what it uses still, of another slot
+    -- a region at another slot is still used
     uses_still : (r : Region) → MayUseRegion h r → slot_of z places.slot r ≢ s → MayUseRegion h2 r
     uses_still GlobalRegion u ne = tt
     uses_still (Numbered i) u ne = in_without j i h.stakes (ne_of j i (λ e. ne (ap places.slot (sym e)))) ∙ u
@@ -227,7 +228,7 @@ module _ (z : TableSizes) (words : List ℕ) (recs : List Rec) (x : Ground) (pla
           (e, subst (λ (l : List Fill). Within f l) (sym fills) (within_dropped s c.fills f a.0 (unmade f object stored e))))
           reserved (λ object stored m. sym make ∙ m)
 
-      -- a leave, where others have a stake
+      -- a leave while others have a stake
       pub other_left : d.give ≡ c.give → n ≢ 2 → MemoryImage z (set words (count_at z s) (n - 1)) recs2 (left x g h j) places
       other_left give more =
           let f = found in
@@ -256,7 +257,7 @@ module _ (z : TableSizes) (words : List ℕ) (recs : List Rec) (x : Ground) (pla
           one_less : (a m : ℕ) → 0 < m → a ≡ suc m → a - 1 ≡ suc (m - 1)
           one_less a m l e = omega arith
 
-      -- a leave, where it was the last: the region goes, and its chain is to be given back
+      -- a leave of the last stake: the region is removed, and its chain is to be returned
       pub last_left : c.give ≡ Calm → d.give ≡ Owes s → n ≡ 2
           → MemoryImage z (set words (count_at z s) (n - 1)) recs2 (left x g h j) (record places { uses = put_at places.uses s (Closing g) })
       last_left calm give last =

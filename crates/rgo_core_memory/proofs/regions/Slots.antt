@@ -1,4 +1,5 @@
--- What slots are used for, where regions live and where chains are given back.
+-- What slots are used for: live regions, and chains that are returned. The two exclude each other, and that is why nobody claims into a
+-- chain that is being returned.
 use Rattle.std.proofs.Common.{◌≡◌, ◌⊎◌, ℕ, ◌<◌, true, List, Option, Some, None, slice_get, nat_lt, refl, ap, sym, subst, ◌∙◌, inl, inr, ⊎_elim, arith, true≢false}
 use Rattle.rgo_sound.specs.RegionMachine.Regions.{RegionInfo, has_stakes, is_live}
 use Rattle.rgo_sound.specs.RegionMachine.declared.regions.Region.{Region}
@@ -52,13 +53,13 @@ module _ (z : TableSizes) (words : List ℕ) (recs : List Rec) (x : Ground) (pla
       let y : Living j ≡ Living m = sym l.1 ∙ (ap places.uses e ∙ o.1) in
       let same : j ≡ m = cc y in ap Numbered same
 
-  -- who closes a slot is alone with that
+  -- only one goroutine closes a slot
   pub one_closes : (s g j : ℕ) (c d : Rec) → HasRecord recs g c → ClosesSlot c.give s → HasRecord recs j d → ClosesSlot d.give s → j ≡ g
   one_closes s g j c d own closes there also = let a = k.counts.closes g s c own closes in let b = k.counts.closes j s d there also in
       let y : Closing j ≡ Closing g = sym b.1 ∙ a.1 in cc y
 
   module _ (steady : Steady x) where
-    -- what a goroutine uses lives
+    -- a region that a goroutine uses is live
     pub uses_live : (g : ℕ) (h : Held) (r : Region) → slice_get x.held g ≡ Some h → MayUseRegion h r → is_live x.regions r ≡ true
     uses_live g h GlobalRegion e u = refl
     uses_live g h (Numbered j) e u = steady.staked g j h e u
@@ -82,7 +83,7 @@ module _ (z : TableSizes) (words : List ℕ) (recs : List Rec) (x : Ground) (pla
     pub owner_stake : (g : ℕ) (f : Fill) → Owns recs g f → StakeAt z x.held places.slot g f.slot
     owner_stake g f w = let t = k.filled.fills g f w in (t.0, t.1, t.2, t.3, t.4)
 
-    -- no page of a chain that is given back is still being hung there
+    -- no page is being hung on a chain that is returned
     pub unclaimed : (g r p : ℕ) (c : Rec) → HasRecord recs g c → ClosesSlot c.give r → places.at p ≡ Chained r
         → (j s o : ℕ) (y : Rec) → HasRecord recs j y → y.claim ≡ Hung p s o → ⊥
     unclaimed g r p c own closes at j s o y there q =

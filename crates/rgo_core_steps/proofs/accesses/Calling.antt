@@ -1,4 +1,4 @@
--- What calls of several accesses have done, from what each access has left.
+-- What calls of several accesses have done, from what each access has left: lists of accesses are appended, and counts added.
 use Rattle.std.proofs.Common.{◌≡◌, ℕ, suc, ◌+◌, List, [], ◌∷◌, ◌++◌, length, ap, subst, arith, length-append}
 use Rattle.rgo_core.specs.Rule.Histories.{access}
 use Rattle.rgo_core.specs.Rule.Views.{Me, number_of}

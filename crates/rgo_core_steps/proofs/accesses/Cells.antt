@@ -1,4 +1,4 @@
--- Loads and stores that are the next instruction, whichever word they access.
+-- Loads and stores that are the next instruction, whichever word they access: a case for each, with the law of rgo_core for it.
 use Rattle.std.specs.Option.{option_map_or}
 use Rattle.std.proofs.Common.{◌≡◌, ℕ, ◌+◌, List, Option, Some, refl, ap, sym, subst, ◌∙◌}
 use Rattle.rgo_sound.specs.Code.Code.{CodeOp, Do}
@@ -28,7 +28,7 @@ given_type_is T {c} a =
     ap (λ (o : Option Position). option_map_or (λ (p : Position). target_type T p.w (given p.instr.op)) o int) (position_is a)
     ∙ ap (λ (op : CodeOp). target_type T a.w (given op)) a.is
 
--- what a law says that an instruction gives, by the record alone
+-- the record after an instruction that a law names, by the record alone
 gives_is : (T : Setup) {c : Record} {to : Option ℕ} {act : Action} {from removes : List ℕ}
     (a : IsAtOp T.code c (Do to act from removes)) (n : ℕ) (d : Record) → Gives T c a to n d
     → (d ≡ acting T.code c n) × Points T (given_type T c) n

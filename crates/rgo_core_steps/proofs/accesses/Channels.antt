@@ -1,4 +1,5 @@
--- The law of each access to a channel, with what the calls ask and show.
+-- The law of each access to a channel, with what the calls require and show. Only words differ between the two; the laws are those of
+-- rgo_core.
 use Rattle.std.proofs.Common.{◌≡◌, ℕ, suc, [], Option, ◌+◌, ◌-◌, ◌/◌, ◌%◌, ◌==◌, Bool, true, false, if◌then◌else◌, refl, ap, sym, subst, ◌∙◌, ◌++◌, slice_index, slice_set, arith}
 use prog.Atomic.{either}
 use Rattle.rgo_core.specs.Channels.Controls.{closed_of, control, count_of, head_of}
@@ -21,7 +22,7 @@ use Rattle.rgo_core_steps.proofs.record_steps.After.{acknowledging_is, committin
 use Rattle.rgo_core_steps.proofs.accesses.Telling.{tells_more}
 
 module _ (T : Setup) (g : ℕ) (c : Record) where
-  -- the same function of the word in other words
+  -- an equal function of the word
   leaves_as : (i : ℕ) (f h : ℕ → ℕ) {P : ℕ → Record → Type 0} → ((n : ℕ) → f n ≡ h n) → Moves T g c i f P → Moves T g c i h P
   leaves_as i f h same moves words recs run explains is small =
       let m = moves words recs run explains is small in

@@ -1,4 +1,5 @@
--- What several accesses leave, from what each of them leaves.
+-- What several accesses leave, from what each of them leaves. A filter takes a goroutine's own accesses out of all that its seat has seen,
+-- and it goes over appends.
 use Rattle.std.proofs.Common.{◌≡◌, ℕ, zero, suc, ◌+◌, ◌<◌, Bool, true, false, List, [], ◌∷◌, ◌++◌, length, Option, Some, None, if◌then◌else◌, cond, refl, ap, sym, subst, ◌∙◌, ⊎_elim, arith, append_assoc}
 use mathlib.Core.Option.{some, some-injective, some-ne-none}
 use lib.ListN.{get_elem?}
@@ -102,7 +103,7 @@ module _ (g : ℕ) where
   pub own_access : (kind : Kind) (i n x : ℕ) → own_by g (access g kind i n x ∷ []) ≡ access g kind i n x ∷ []
   own_access kind i n x = ap (λ b. put_if b (access g kind i n x) []) (number_same g)
 
-  -- what is known of its own accesses is known of each
+  -- a fact about its own accesses holds of each of them
   pub own_at : (es : List Access) (j : ℕ) (a : Access) → get_elem? (own_by g es) j ≡ some a
       → (i : ℕ) × (get_elem? es i ≡ some a) × (a.by ≡ Some g)
   own_at [] j a e = absurd (some-ne-none a (sym e))

@@ -1,4 +1,4 @@
--- What an access left may be said in other words.
+-- What an access has left, with a weaker fact in place of what it tells.
 use Rattle.std.proofs.Common.{◌≡◌, ℕ}
 use Rattle.rgo_core.specs.Rule.Views.{Me}
 use Rattle.rgo_core.specs.Rule.declared.accesses.Kind.{Kind}

@@ -1,4 +1,4 @@
--- What an access tells may be said in other words.
+-- What an access tells may be replaced by what follows from it.
 use Rattle.std.proofs.Common.{ℕ, inl, inr, ⊎_elim}
 use Rattle.rgo_core.specs.Core.{Setup}
 use Rattle.rgo_core.specs.Records.{Record}

@@ -1,4 +1,4 @@
--- Records that may access a channel, and such as may not.
+-- Records that may access a channel, and some that may not.
 use Rattle.std.proofs.Common.{◌≡◌, ◌<◌, ◌≢◌, ℕ, zero, suc, ◌+◌, ◌%◌, true, List, [], ◌∷◌, None, Option, Some, refl, inl, inr, ⊎_elim, ap, subst, sym, ◌∙◌, arith}
 use Rattle.std.proofs.lemmas.Bool.{false≢true}
 use Rattle.rgo_sound.specs.Code.Code.{Do}

@@ -1,4 +1,4 @@
--- Examples of accesses to memory, pages and counts.
+-- Examples of accesses to memory, pages and counts, by computation.
 use Rattle.std.proofs.Common.{◌≡◌, ℕ, List, [], ◌∷◌, Some, refl, ap, ◌∙◌, arith}
 use Rattle.std.proofs.lemmas.Option.{none-some, same_Some}
 use Rattle.rgo_core.specs.Frames.shown.WordFrames.{WordFrame, bare, frame_word}

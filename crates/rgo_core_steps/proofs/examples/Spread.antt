@@ -1,4 +1,4 @@
--- Examples of spread objects.
+-- Examples of spread objects, by computation.
 use Rattle.std.proofs.Common.{◌≡◌, ◌⊎◌, ◌<◌, ◌≤◌, ◌^◌, inl, inr, ⊎_elim, ℕ, suc, ◌+◌, true, false, List, [], ◌∷◌, Some, None, refl, ap, sym, subst, ◌∙◌, arith}
 use Rattle.std.proofs.lemmas.Bool.{false≢true}
 use Rattle.std.proofs.lemmas.Option.{none-some, same_Some}
@@ -171,7 +171,7 @@ the_instr = plain_instr the_element
 abbrev the_frame : WordFrame
 the_frame = record { function = 0; next = 0; variables = 25 ∷ 8 ∷ 0 ∷ [] }
 
--- the record is there, whatever it has read
+-- the record is at this instruction, whatever it has read
 abbrev loads_it : (limits : Limits) (n : ℕ) → IsAtOp (reading limits).code (measured n) the_element
 loads_it limits n = record {
   w = the_frame;
@@ -245,7 +245,7 @@ record Shown (limits : Limits) (c : Record) (word address index : ℕ) : Type 0 
   pub inside : IsInSlice c address index
   pub is_at : (suc inside.measured.elements ≤ 8) ⊎ IsLocated (reading limits) c address index word
 
--- every load there is one of element 8 at address 24
+-- every load at this instruction is one of element 8 at address 24
 shown : (limits : Limits) (c : Record) → c.frame.frames ≡ the_frame ∷ [] → (word : ℕ) → Loads (reading limits) c word → Shown limits c word 24 8
 shown limits c are word (Field d k p address removes a points there) = absurd (no_field d k (p ∷ []) removes (op_is limits c are _ a).1)
 shown limits c are word (Length d p address removes a points there) = absurd (no_length d (p ∷ []) removes (op_is limits c are _ a).1)

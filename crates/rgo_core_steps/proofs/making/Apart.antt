@@ -1,4 +1,4 @@
--- The moves that store the words of a spread object.
+-- The moves that store the words of a spread object: as in `Making`, in reserved pages.
 use Rattle.std.proofs.Common.{◌≡◌, inl, inr, ⊎_elim, ℕ, suc, Bool, true, false, List, ◌∷◌, if◌then◌else◌, refl, ap, sym, subst, ◌∙◌}
 use Rattle.std.proofs.lemmas.Option.{same_Some}
 use Rattle.rgo_sound.specs.Memory.Memory.{Object}

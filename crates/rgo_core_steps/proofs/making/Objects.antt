@@ -1,4 +1,5 @@
--- New objects: that what the record computes is what the laws name, and the moves that store their words.
+-- New objects: that what the record computes is what the laws name, and the moves that store their words. Whether a store is the last one
+-- is a test of the record (`covers`), and each answer takes another law.
 use Rattle.std.specs.Option.{option_map, option_map_or}
 use Rattle.std.proofs.Common.{◌≡◌, ◌⊎◌, inl, inr, ⊎_elim, ℕ, zero, suc, ◌+◌, ◌*◌, ◌<◌, ◌≤◌, ◌==◌, ◌^◌, Bool, true, false, List, [], ◌∷◌, Option, Some, None, if◌then◌else◌, map, nat_eq, option_and_then, pos, replicate, slice_get, refl, ap, sym, subst, ◌∙◌, arith}
 use Rattle.std.proofs.lemmas.Bool.Decides.{nat_tests}

@@ -1,4 +1,4 @@
--- The functions of the record alone are what the laws say, whichever position a law names: a record has at most one.
+-- The functions of the record alone return what the laws state, whichever position a law names: a record has at most one.
 use Rattle.std.specs.Option.{option_map, option_map_or}
 use Rattle.std.proofs.Common.{◌≡◌, ℕ, suc, ◌+◌, ◌*◌, List, [], ◌∷◌, Option, Some, ap, ◌∙◌}
 use Rattle.rgo_sound.specs.Code.Code.{Code, CodeFn, CodeInstr, CodeOp, Do, Go, Print}

@@ -1,4 +1,4 @@
--- Accesses to the clock, by the functions of the record alone.
+-- Accesses to the clock, by the functions of the record alone. An end has a case for each cause that a record can show.
 use Rattle.std.proofs.Common.{◌≡◌, ℕ, ◌+◌, ◌%◌, ◌^◌, bit_or, unwrap_or, Option, Some, ap, subst, sym, ◌∙◌}
 use Rattle.rgo_core.specs.Frames.steps.Local.{local}
 use Rattle.rgo_core.specs.Frames.Records.{FramesRec as FrameRec}

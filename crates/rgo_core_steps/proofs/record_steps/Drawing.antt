@@ -1,4 +1,4 @@
--- Draws of numbers, by the functions of the record alone.
+-- Draws of numbers, by the functions of the record alone. The number found decides between the two outcomes, as the code's comparison does.
 use Rattle.std.proofs.Common.{◌≡◌, ℕ, ◌+◌, ◌%◌, ◌^◌, ◌<◌, ◌≤◌, ◌⊎◌, inl, inr, [], ◌∷◌, Some, None, max, refl, ap, subst, sym, ◌∙◌, arith}
 use Rattle.std.proofs.lemmas.Bool.Decides.{nat_tests}
 use Rattle.std.proofs.lemmas.Grind.{common_steps}
@@ -21,7 +21,7 @@ use Rattle.rgo_core_steps.proofs.record_steps.After.{child_is, starting_is}
 use Rattle.rgo_core_steps.proofs.accesses.Telling.{either_tells_more}
 
 module _ (T : Setup) (c : Record) where
-  -- what a draw tells: at the limit or above it nothing has started
+  -- what holds after a draw: at the limit or above it nothing has started
   abbrev pub Refused : ℕ → Record → Type 0
   Refused n d = (most_goroutines T.limits ≤ n) × (d ≡ refusing c)
 
@@ -47,7 +47,7 @@ second_row : (blank : Record) (rows : Rows Record) (n : ℕ) (r : ℕ × Record)
     → HasRow rows n (record_in blank (rest_of rows))
 second_row blank rows n r c e = subst (λ (l : Rows Record). HasRow l n (record_in blank (rest_of l))) (sym e) (1, refl)
 
--- what was told, as the answer says it
+-- the same by what the call returns
 module _ (T : Setup) (q : ℕ) (m : Me Record) (n : ℕ) (w : Me Record) where
   abbrev Drew : Type 0
   Drew = Told accesses (number_of m) DrawNumber made_at next_number (Refused T (settled T q m)) m n w
@@ -90,7 +90,7 @@ module _ (T : Setup) (q : ℕ) (m : Me Record) (n : ℕ) (w : Me Record) where
   )
   drawn_none high (inr t) = let h = t.tells_so.0 in absurd (omega arith)
 
-  -- a seat all of whose rows are possible has a possible record, and one beside it
+  -- if all rows of a seat are possible, so is its record, and the one beside it
   pub drawn_possible : Drew → ((g : ℕ) (c : Record) → HasRow w.0.records g c → Occurs (Core T) g c) → HasPossible T w
   drawn_possible (inl t) all = is_possible T (number_of w) (mine T w)
       (all (number_of w) (mine T w) (first_row (first_of T.code) w.0.records (number_of m, t.after) [] t.alone.0))

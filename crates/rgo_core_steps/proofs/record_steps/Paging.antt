@@ -1,4 +1,5 @@
--- Accesses to the states of pages, by the functions of the record alone.
+-- Accesses to the states of pages, by the functions of the record alone. The record decides whether the page becomes an own one or a
+-- reserved one, and each has its law.
 use prog.Atomic.{either}
 use Rattle.std.proofs.Common.{◌≡◌, ⊎_elim, ℕ, suc, ◌+◌, ◌<◌, ◌≤◌, ◌==◌, Bool, true, false, nat_lt, if◌then◌else◌, add-one, ap, sym, subst, ◌∙◌, arith}
 use Rattle.std.proofs.lemmas.Bool.Decides.{nat_tests}
@@ -25,7 +26,7 @@ whole : (n page_words : ℕ) → n ≤ page_words → nat_lt page_words n ≡ fa
 whole n page_words fits = grind (arith, nat_tests)
 
 module _ (T : Setup) (g : ℕ) (c : Record) where
-  -- the exchange that claims a page, in the words of the record
+  -- the exchange that claims a page, by the functions of the record
   tries : (p s r : ℕ) (spread : Bool) → r ≡ s → next_is_spread T c ≡ spread
       → Moves T g c (state_at (layout T) p) (λ n. if n == 0 then suc r else n)
       (λ n d. d ≡ (if n == 0 then (if spread then reserves c p r else claims c p r) else tried_page c p))

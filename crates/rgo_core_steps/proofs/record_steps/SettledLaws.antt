@@ -1,4 +1,4 @@
--- Records after local steps.
+-- Records after local steps: a local step leaves a possible record possible, so all facts go by induction over the number of steps.
 use Rattle.std.specs.Option.{option_map_or}
 use Rattle.std.proofs.Common.{◌≡◌, ℕ, zero, suc, ◌+◌, List, [], ◌∷◌, Option, None, Some, refl, ap, sym, subst, ◌∙◌, arith}
 use Rattle.rgo_core.specs.Frames.steps.Quiet.{quiet}

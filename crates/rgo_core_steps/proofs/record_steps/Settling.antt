@@ -1,4 +1,5 @@
--- The local steps of a goroutine since its last access are in the run directly before its next one.
+-- The local steps of a goroutine since its last access are in the run directly before its next one. The rule has this for one change
+-- without an access. Here it is repeated q times, from the last one back.
 use Rattle.std.specs.Option.{option_map_or}
 use Rattle.std.proofs.Common.{◌≡◌, ℕ, zero, suc, List, [], ◌∷◌, ◌++◌, Option, Some, set, inl, inr, ⊎_elim, ap, refl, sym, subst, ◌∙◌, append_assoc}
 use Rattle.atomic_table.proofs.Lists.{set_here}
@@ -71,7 +72,7 @@ pub settled_counts : (T : Setup) (g q : ℕ) (c : Record) → SettlesBy T g q c 
 settled_counts T g zero c s = refl
 settled_counts T g (suc q) c s = settled_counts T g q (settled_once T g c) s.1 ∙ once_counts T g c s.0
 
--- what the goroutine may do after its local steps it may do before them
+-- an access that the goroutine may make after its local steps it may make before them, with the steps in its gain
 pub settles : (T : Setup) (q : ℕ) (m : Me Record) (i : ℕ) (f : ℕ → ℕ) (tells : ℕ → Record → Type 0) → Settles T q m
     → Moves T (number_of m) (settled T q m) i f tells → Moves T (number_of m) (mine T m) i f tells
 settles T q m i f tells s =

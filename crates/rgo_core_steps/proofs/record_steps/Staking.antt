@@ -1,4 +1,4 @@
--- Accesses to the counts of regions, by the functions of the record alone.
+-- Accesses to the counts of regions, by the functions of the record alone: the first duty decides what each does.
 use prog.Atomic.{either}
 use Rattle.std.specs.Option.{option_map_or}
 use Rattle.std.proofs.Common.{◌≡◌, ℕ, ◌+◌, ◌-◌, ◌%◌, ◌^◌, ◌<◌, ◌==◌, Bool, true, false, List, [], ◌∷◌, Option, Some, if◌then◌else◌, refl, ap, sym, subst, ◌∙◌}
@@ -22,7 +22,7 @@ choice : (b : Bool) (x y : ℕ) → (if b then x else y) ≡ either b x y
 choice true x y = refl
 choice false x y = refl
 
--- the laws' word for what an exchange leaves, and the table's
+-- what an exchange leaves, as the laws write it and as the table does
 pub exchanges : (T : Setup) (g : ℕ) (c : Record) (i old new : ℕ) (tells : ℕ → Record → Type 0)
     → Moves T g c i (λ n. if n == old then new else n) tells → Moves T g c i (λ n. either (n == old) new n) tells
 exchanges T g c i old new tells = subst (λ (f : ℕ → ℕ). Moves T g c i f tells) (λ j n. choice (n == old) new n j)

@@ -1,4 +1,4 @@
--- What a search in vain says of each place.
+-- What follows from a search in vain for each place: it was tried, since the order goes over all numbers below n.
 use Rattle.std.proofs.Common.{◌≡◌, ◌≢◌, ℕ, zero, suc, ◌+◌, ◌-◌, ◌<◌, ◌≤◌, List, [], ◌∷◌, ◌++◌, inl, inr, ⊎_elim, refl, ap, sym, subst, ◌∙◌, arith, length, length-append}
 use mathlib.Core.Logic.{◌⊎◌, dite}
 use mathlib.Core.Option.{some, some-injective, some-ne-none}

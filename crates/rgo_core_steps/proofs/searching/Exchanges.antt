@@ -1,4 +1,5 @@
--- Searches, exchange by exchange.
+-- Searches, exchange by exchange. By induction over the places tried so far. Where the search begins and where it wraps around cuts the
+-- order in two.
 use prog.Atomic.{either}
 use Rattle.std.proofs.Common.{◌≡◌, ◌≢◌, ℕ, zero, suc, ◌+◌, ◌-◌, ◌<◌, ◌≤◌, ◌==◌, false, List, [], ◌∷◌, ◌++◌, if◌then◌else◌, refl, ap, sym, subst, ◌∙◌, arith, append_assoc}
 use Rattle.std.proofs.lemmas.Bool.Decides.{nat_tests}

@@ -1,4 +1,4 @@
--- The words of a table lie in it.
+-- The words of a table are within its length, by its sizes.
 use Rattle.std.proofs.Common.{ℕ, ◌<◌, ◌≤◌, arith}
 use Rattle.atomic_table.specs.Seated.{TableId}
 use Rattle.rgo_core.specs.Memory.Words.{count_at, head_at, next_at, state_at}

@@ -1,4 +1,5 @@
--- What a table shows of its run, and what it opens with.
+-- What a table shows of its run, and what it opens with. All of it is in the core of the closed table (`Clock`, `Numbers`). That a view
+-- with the family has all records goes by induction on numbers: a parent's is smaller.
 use Rattle.std.proofs.Common.{◌≡◌, ◌≢◌, ℕ, zero, suc, ◌<◌, ◌≤◌, ◌==◌, ◌^◌, nat_le, false, List, [], ◌∷◌, ◌++◌, Option, Some, None, option_map, length, map, replicate, slice_get, slice_set, slice_index, sum_by, refl, ap, sym, subst, ◌∙◌, arith, length-append}
 use Rattle.std.proofs.lemmas.Bool.Decides.{nat_tests}
 use Rattle.std.proofs.lemmas.List.{get_or-replicate, length-map, length-replicate}
@@ -112,7 +113,7 @@ module _ (words : List ℕ) (recs : List Record) (s : RegionState) (before late 
       → (slice_get (before ++ late) d.ticket ≡ Some d.bytes) × (d.is_void ≡ nat_le (length before) d.ticket)
   piece_here g i d (c, at, there) = k.pieces g i c.clock d (clock_here recs g c at) there
 
-  -- who has drawn the ticket
+  -- the record that has drawn the ticket
   drawn : (t : ℕ) (bytes : List ℕ) → slice_get before t ≡ Some bytes
       → (g i : ℕ) × HasDrawnAt recs g i (record { ticket = t; bytes = bytes; is_void = false })
   drawn t bytes e =
@@ -139,7 +140,7 @@ module _ (words : List ℕ) (recs : List Record) (s : RegionState) (before late 
   ticket_once : (g i : ℕ) (d : Drawn) → HasDrawnAt recs g i d → sum_by (has_ticket d.ticket) (map clock_of recs) ≡ 1
   ticket_once g i d has = k.once d.ticket (below (before ++ late) d.ticket d.bytes (piece_here g i d has).0)
 
-  -- two draws of a ticket are one
+  -- a ticket is drawn once
   same_place : (t g h i j : ℕ) (d e : Drawn) → HasDrawnAt recs g i d → HasDrawnAt recs h j e → d.ticket ≡ t → e.ticket ≡ t → (g ≡ h) × (i ≡ j)
   same_place t g h i j d e (c, at, there) (b, here, its) first second =
       let once : sum_by (has_ticket t) (map clock_of recs) ≡ 1 =

@@ -1,4 +1,5 @@
--- A seat with the records of two goroutines, and the seats with one record each after it was split.
+-- A seat with the records of two goroutines, and the seats with one record each after it was split. Their numbers differ, so a split by
+-- number separates them.
 use Rattle.std.proofs.Common.{◌≡◌, ℕ, [], ◌∷◌, ap, sym, ◌∙◌, arith}
 use lib.ListN.{get_elem?}
 use Rattle.rgo_core.specs.Rule.Views.{HasRow, Me, Rows, number_in, number_of, record_in, rows_but, rows_for, view}

@@ -1,4 +1,4 @@
--- Sums over lists: who contributes, and that two positions contribute both.
+-- Sums over lists: which position contributes, and that two positions contribute both. A sum of 1 thus has exactly one contributor.
 use Rattle.std.proofs.Common.{◌≡◌, ◌≢◌, ℕ, zero, suc, ◌+◌, ◌<◌, ◌≤◌, ◌==◌, Bool, true, false, List, [], ◌∷◌, Some, slice_get, sum_by, refl, ap, arith}
 use Rattle.std.proofs.lemmas.Bool.Decides.{nat_tests}
 use Rattle.std.proofs.lemmas.List.Sums.{sum_by-cons}
