@@ -1,4 +1,4 @@
--- What an act leaves that attends to the first duty of a goroutine.
+-- What an act leaves that attends to the first duty of a goroutine. Only a duty that was done changes the queue.
 use Rattle.std.specs.Prelude.{◌≡◌, ◌+◌, ◌<◌, List, [], ◌∷◌}
 use Rattle.rgo_body.specs.Bodies.{CanCount}
 use Rattle.rgo_body.specs.Duties.{HasDoneDuty}
@@ -19,6 +19,7 @@ pub record IsAtDuty (r : Run) (a : Actor) (d : Duty) : Type 0 where
   pub owes : a.body.queue.duties ≡ d ∷ others
   pub rests : a.body.side ≡ AtRest
   pub can : CanCount a.body.counts
+  -- the duty may be the removal of a region that has all pages
   pub returned : a.body.counts.returned + r.sizes.pages < 18446744073709551616
   pub behind : a.behind + 1 < 18446744073709551616
 
@@ -26,6 +27,7 @@ pub record IsAtDuty (r : Run) (a : Actor) (d : Duty) : Type 0 where
 pub record HasAttended (r : Run) (a b : Actor) : Type 0 where
   pub acted : ActorActed r a b 0 [] []
   pub done : HasDoneDuty a.body b.body
+  -- so the loop over duties ends
   pub nearer : distance r.program b.body < distance r.program a.body
 
 -- Some of its first duties are done, each by a local step. Nothing else of the body has changed but what it has of regions and what it
@@ -34,7 +36,7 @@ pub record HasAttendedLocally (r : Run) (a b : Actor) : Type 0 where
   pub acted : ActorActed r a b 0 [] []
   pub rest : b.body ≡ record a.body { holding = b.body.holding; queue = b.body.queue; counts = b.body.counts }
 
--- It owes what it owed.
+-- It owes what it owed. Only the memory of its holding may have grown, which shows nowhere.
 pub record HasWaited (r : Run) (a b : Actor) : Type 0 where
   pub acted : ActorActed r a b 0 [] []
   pub rest : b.body ≡ record a.body { holding = b.body.holding }

@@ -1,5 +1,5 @@
--- Accesses to elements of slices, before which the length is loaded, and to fields. Where the object is spread, the number of the data
--- page is loaded, too.
+-- Accesses to elements of slices, before which the length is loaded, and to fields. If the object is spread, the number of the data page is
+-- loaded, too. The record must know what was loaded: without it the table's rule would not allow the access.
 use Rattle.std.specs.Prelude.{◌≡◌, ◌⊎◌, ◌<◌, ℕ, suc, List, [], ◌∷◌, Some, None}
 use Rattle.rgo_core.specs.Frames.shown.WordFrames.{frame_word}
 use Rattle.rgo_core.specs.moves.Cells.{IsElementAt, IsInSlice, IsLocated}

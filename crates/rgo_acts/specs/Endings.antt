@@ -1,4 +1,4 @@
--- What an act leaves by which a goroutine ends the run.
+-- What an act leaves by which a goroutine ends the run. If another one had ended it before, the same act is none.
 use Rattle.std.specs.Prelude.{◌≡◌, ◌+◌, ◌≤◌, Bool, false, ℕ, List, if◌then◌else◌, Some, slice_get}
 use Rattle.rgo_body.specs.declared.nexts.Next.{Next}
 use Rattle.rgo_sound.specs.Code.Erasure.{erased_fn}

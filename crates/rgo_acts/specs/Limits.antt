@@ -1,4 +1,4 @@
--- Limits that a goroutine meets.
+-- Limits that a goroutine meets. A limit alone ends nothing: the turn decides, by the end mark.
 use Rattle.std.specs.Prelude.{[]}
 use Rattle.rgo_core.specs.Rule.Views.{number_of}
 use Rattle.rgo_core_steps.specs.Ends.{GoroutineEndsRun}

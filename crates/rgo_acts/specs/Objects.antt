@@ -1,4 +1,5 @@
--- New objects: what an act leaves that makes one, and what is known of it before its words are stored.
+-- New objects: what an act leaves that makes one, and what is known of it before its words are stored. Pages that were claimed for a spread
+-- object are part of what is left, since a claim shows.
 use Rattle.std.specs.Prelude.{◌≡◌, ◌+◌, ◌*◌, ◌<◌, ◌≤◌, ◌==◌, ℕ, suc, List, Option, Some, None, [], if◌then◌else◌, length, slice_index}
 use Rattle.rgo_core.specs.Channels.Records.{at_rest}
 use Rattle.rgo_core_facts.specs.MemoryObjects.{PageHasNoRoom, NewObject, data_pages_of}
@@ -48,7 +49,8 @@ pub record HasNoPage (r : Run) (a b : Actor) : Type 0 where
   pub body : IsAsBefore a.body b.body
   pub lacks : LacksPage r.setup (number_of a.seat.me) (now r.setup b) acted.es
 
--- It has claimed pages for a spread object. It needs one more, and each was found in use.
+-- It has claimed pages for a spread object. It needs one more, and each was found in use. It has moved: the pages that it claimed are
+-- used by nobody else, so a pass that counts them must see them.
 pub record HasTooFewPages (r : Run) (a b : Actor) : Type 0 where
   pub acted : ActorActed r a b 0 [] []
   pub lacks : LacksPage r.setup (number_of a.seat.me) (now r.setup b) acted.es
@@ -134,6 +136,7 @@ pub record IsPlacedInPage (T : Setup) (c : Record) (slot : ℕ) (page : Page) (n
 pub record HasPage (r : Run) (a b : Actor) (next : Next) (new : New) (page : Page) : Type 0 where
   pub before : ActorIsBefore r b next
   pub acted : ActorActed r a b 0 [] []
+  -- that one object more can be counted was tested before the page was claimed
   pub objects : b.body.counts.objects ≡ a.body.counts.objects
   pub region : Region
   pub at_key : region_of_key b.body.holding new.key ≡ Some region

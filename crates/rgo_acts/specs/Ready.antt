@@ -1,4 +1,4 @@
--- What an act asks of a goroutine.
+-- What an act asks of a goroutine: all that could fail was done before, so that the act itself cannot.
 use Rattle.std.specs.Prelude.{◌≡◌, ◌+◌, ◌<◌}
 use Rattle.rgo_body.specs.Bodies.{HasRoomBehind, BodyIsReady}
 use Rattle.rgo_body.specs.declared.bodies.Side.TheVariants.{AtRest}

@@ -1,4 +1,5 @@
--- What a goroutine knows of channels while it is before no operation on one: nothing.
+-- What a goroutine knows of channels while it is before no operation on one: nothing. What it had found there may be outdated by the time
+-- it comes back.
 use Rattle.std.specs.Prelude.{◌≡◌, ℕ, List, [], ◌∷◌, Option, Some}
 use Rattle.rgo_sound.specs.Code.Code as code
 use Rattle.rgo_sound.specs.Code.Code.{CodeInstr}

@@ -1,4 +1,5 @@
--- What a goroutine lacks, by what its accesses have found: each place was in use.
+-- What a goroutine lacks, by what its accesses have found: each place was in use, at its own access. That all were at one moment is for the
+-- driver to show, by a pass.
 use Rattle.std.specs.Prelude.{◌≢◌, ◌<◌, ℕ, List}
 use Rattle.rgo_core.specs.Memory.Words.{count_at, state_at}
 use Rattle.rgo_core.specs.Rule.declared.accesses.Access.{Access}
@@ -17,6 +18,7 @@ AllInUse g es kind at n = (k : ℕ) → k < n → (found : ℕ) × (found ≢ 0)
 -- its next instruction needs a page for this slot, and no page was free
 pub record LacksPage (T : Setup) (g : ℕ) (c : Record) (es : List Access) : Type 0 where
   pub slot : ℕ
+  -- it is not in the middle of an act that could still return what it lacks
   pub calm : IsCalm c
   pub needs : NeedsPage T c slot
   pub in_use : AllInUse g es ClaimPage (state_at (layout T)) T.sizes.pages

@@ -1,4 +1,4 @@
--- Starts of goroutines.
+-- Starts of goroutines. The new one has seen what its parent has, so that what the parent knows of the table holds for it as well.
 use Rattle.std.specs.Prelude.{◌≡◌, ◌<◌, ℕ, [], ◌∷◌}
 use Rattle.rgo_core.specs.Channels.Records.{at_rest}
 use Rattle.rgo_core.specs.Memory.Opening.{first_record}
@@ -21,8 +21,10 @@ pub record HasStarted (r : Run) (a b : Actor) (n : ℕ) (child : Actor) : Type 0
   pub settled : child.behind ≡ 0
   pub number : number_of child.seat.me ≡ n
   pub within : n < most_goroutines r.setup.limits
+  -- the child can be compared with its parent from its first access on
   pub seen : child.seat.me.0.seen ≡ b.seat.me.0.seen
   pub begins : now r.setup child ≡ child_of r.setup.code (now r.setup a)
+  -- it has made no access, and nothing of its parent's counts is counted twice
   pub blank : (now r.setup child).clock ≡ blank
   pub memory : (now r.setup child).memory ≡ first_record
   pub rests : (now r.setup child).side ≡ at_rest

@@ -1,21 +1,16 @@
 -- What an operation on a channel asks of a goroutine, and what it leaves.
 use Rattle.std.specs.Prelude.{◌≡◌, ◌+◌, ◌<◌, ℕ, [], Option, Some, ⊤}
-use Rattle.rgo_core.specs.Channels.Records as sides
 use Rattle.rgo_core.specs.Rule.Views.{number_of}
 use Rattle.rgo_core.specs.ties.AtChannels.{IsAtChannel}
 use Rattle.rgo_core.specs.moves.Commits.{offers}
-use Rattle.rgo_core.specs.Core.{Setup}
-use Rattle.rgo_core.specs.Records.{Record}
 use Rattle.rgo_core_steps.specs.After.{committing}
-use Rattle.rgo_core_steps.specs.Calls.{waited}
 use Rattle.rgo_chan.specs.declared.answers.Tried.{Tried}
 use Rattle.rgo_chan.specs.declared.answers.Tried.TheVariants as tried
 use Rattle.rgo_sound.specs.Memory.declared.traps.Trap.{Trap}
 use Rattle.rgo_sound.specs.Memory.declared.traps.Trap.TheVariants.{CloseClosed, SendClosed}
-use Rattle.rgo_body.specs.Bodies.{HasRoomBehind, BodyIsReady}
+use Rattle.rgo_body.specs.Bodies.{HasRoomBehind, BodyIsReady, OffersNothing}
 use Rattle.rgo_body.specs.Programs.{CompactProgram}
-use Rattle.rgo_body.specs.Shows.{BodyShows}
-use Rattle.rgo_body.specs.Steps.{Becomes}
+use Rattle.rgo_body.specs.Steps.{Becomes, TriesOperation}
 use Rattle.rgo_body.specs.declared.bodies.Body.{Body}
 use Rattle.rgo_body.specs.declared.bodies.Side.TheVariants.{Offering}
 use Rattle.rgo_body.specs.declared.nexts.Next.{Next}
@@ -31,7 +26,7 @@ use Rattle.rgo_acts.specs.declared.channels.Talked.TheVariants as talked
 pub record CanTry (r : Run) (a : Actor) (next : Next) : Type 0 where
   pub stands : IsActorOf r a
   pub ready : BodyIsReady r.program a.body next
-  pub none : (at : ℕ) → a.body.side ≡ Offering at → ⊥
+  pub none : OffersNothing a.body
   pub room : HasRoomBehind a.body next
   pub count : a.body.counts.steps + 1 < 18446744073709551616
 
@@ -101,12 +96,7 @@ OfAcknowledgement (talked.Trap trap) = ⊤
 
 -- ---- the body after a try
 
--- it shows a record that has made accesses and knows something of a channel that it has not locked
-abbrev pub TriesOperation : CompactProgram → (before after : Body) → Type 0
-TriesOperation p b d = (T : Setup) (c : Record) (n : ℕ) (side : sides.ChannelRec) → BodyShows T p b c → side.hold ≡ sides.Free → side.post ≡ sides.Nowhere
-    → BodyShows T p d (waited n c side)
-
--- the same of each result of a try
+-- by what the try has found; only one that took effect or left an offer has done more than look
 abbrev pub TryConcludes : CompactProgram → (before after : Body) → (at : ℕ) → Tried → Type 0
 TryConcludes p b d at (tried.Done word) = Becomes p b d (λ T c. committing T.code c word)
 TryConcludes p b d at tried.Offered = Becomes p b d (λ T c. offers c at)

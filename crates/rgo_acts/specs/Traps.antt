@@ -1,4 +1,4 @@
--- Instructions that trap.
+-- Instructions that trap. The goroutine stays before the instruction, which the end mark then makes.
 use Rattle.std.specs.Prelude.{[]}
 use Rattle.rgo_core_steps.specs.Ends.{InstrTraps}
 use Rattle.rgo_sound.specs.Memory.declared.traps.Trap.{Trap}

@@ -1,4 +1,5 @@
--- Why a goroutine at a channel cannot continue, by what its accesses found.
+-- Why a goroutine at a channel cannot continue, by what its accesses found. It is blocked only while the words are so; the laws at the end
+-- say when.
 use Rattle.std.specs.Prelude.{◌≡◌, ◌≢◌, ◌+◌, ◌%◌, ℕ, List, Option, Some, None, slice_index}
 use mathlib.Core.Option.{some}
 use lib.ListN.{get_elem?}
@@ -34,7 +35,7 @@ pub data Loses (T : Setup) (g : ℕ) (c : Record) (es : List Access) (at : ℕ) 
 
 -- ---- what follows where no word has changed since
 
--- each access of goroutine g found what its word holds now
+-- Each access of goroutine g found what its word holds now. A driver proves this by a pass in which no word changed.
 abbrev pub FoundNow : List ℕ → ℕ → List Access → Type 0
 FoundNow words g es = (i : ℕ) (a : Access) → get_elem? es i ≡ some a → a.by ≡ Some g → a.found ≡ slice_index words a.word
 

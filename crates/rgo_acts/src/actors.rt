@@ -13,7 +13,8 @@ use rgo_holding::Page;
 #[derive(Drop)]
 pub struct Actor {
     pub seat: RunSeat,
-    /// How many local steps it has made since its last access. Its record takes them with its next one.
+    /// How many local steps it has made since its last access. Its record takes them with its next one, so an act sets this to 0
+    /// after its first access, and no other code may.
     pub behind: u64,
     pub searches: Searches,
     pub body: Body,
@@ -61,7 +62,7 @@ pub(crate) struct Search {
 /// How many places are near.
 const FEW: u32 = 8;
 
-/// Whether a place is one of the few from `first` on.
+/// Whether a place is one of the few from `first` on, whose words share a cache line or two.
 fn lies_near(place: u32, first: u32) -> bool {
     place.wrapping_sub(first) < FEW
 }
@@ -82,7 +83,7 @@ impl Search {
         }
     }
 
-    /// A search has found this place.
+    /// A search has found this place. The next one begins after it, as the place itself is in use now.
     pub(crate) fn found(&mut self, place: u32) {
         if !lies_near(place, self.near) || lies_near(place, self.next) {
             self.next = after(place);
@@ -123,7 +124,7 @@ fn place_of(number: u64, count: usize) -> u32 {
     u32::try_from(share.wrapping_mul(count as u64) >> 32).unwrap_or(0)
 }
 
-/// The place after this one. After the last one there is none, and a search begins at the first one then.
+/// The place after this one. After the last one there is none, and a search begins at the first one then; so no bound is asked for.
 fn after(place: u32) -> u32 {
     place.wrapping_add(1)
 }

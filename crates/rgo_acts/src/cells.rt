@@ -25,7 +25,8 @@ use rgo_core_steps::counting::Steps;
 use rgo_sound::memory::Trap;
 use std::sync::ledger::Ledger;
 
-/// A variable of the next instruction gets the word that this loads.
+/// A variable of the next instruction gets the word that this loads. The access comes before the change of the body, since only it
+/// says what the word is.
 fn take<L: Ledger>(
     actor: &mut Actor,
     run: &Run<'_, '_>,
@@ -94,7 +95,8 @@ fn locate<L: Ledger>(
     run.cell_in(number as usize - 1, cell % page_words)
 }
 
-/// The word of a field of the struct to which variable `pointer` points, which has this address.
+/// The word of a field of the struct to which variable `pointer` points, which has this address. A struct has no words before its
+/// fields, so the field is the cell of its number.
 fn field_word<L: Ledger>(
     actor: &mut Actor,
     run: &Run<'_, '_>,
@@ -166,7 +168,8 @@ pub fn store_field<L: Ledger>(
     Ok(())
 }
 
-/// Loads the length of the slice in variable `from`. That of nil is 0.
+/// Loads the length of the slice in variable `from`. That of nil is 0, for which no word is loaded, but another access is made: the
+/// instruction is a step of the run.
 pub fn length<L: Ledger>(
     actor: &mut Actor,
     run: &Run<'_, '_>,
@@ -231,7 +234,7 @@ fn element<L: Ledger>(
     Some(locate(actor, run, next, address, 1, cell, steps))
 }
 
-/// Loads element `index` of the slice in variable `slice`.
+/// Loads element `index` of the slice in variable `slice`. Nil has no elements, so it has the same trap.
 pub fn load_element<L: Ledger>(
     actor: &mut Actor,
     run: &Run<'_, '_>,
@@ -254,7 +257,8 @@ pub fn load_element<L: Ledger>(
     }
 }
 
-/// Stores variable `value` to element `index` of the slice in variable `slice`.
+/// Stores variable `value` to element `index` of the slice in variable `slice`. The length is loaded even if the trap follows: it is the
+/// reason of the trap.
 pub fn store_element<L: Ledger>(
     actor: &mut Actor,
     run: &Run<'_, '_>,

@@ -11,10 +11,10 @@ ghost use Rattle.rgo_core.specs.Memory.Words.{base as base_of};
 ghost use Rattle.rgo_sound.specs.Tac.Code.{Do};
 ghost use Rattle.rgo_sound.specs.Tac.Ops.{operation_of};
 ghost use Rattle.rgo_sound.specs.Typed.declared.actions.Action.TheVariants as action;
-ghost use Rattle.rgo_body.specs.Bodies.{HasRoomBehind, BodyIsReady};
+ghost use Rattle.rgo_body.specs.Bodies.{HasRoomBehind, BodyIsReady, OffersNothing};
 ghost use Rattle.rgo_body.specs.Nexts.{IsDo};
 ghost use Rattle.rgo_body.specs.Shows.{BodyIsPossible};
-ghost use Rattle.rgo_body.specs.declared.bodies.Side.TheVariants.{AtRest, Offering};
+ghost use Rattle.rgo_body.specs.declared.bodies.Side.TheVariants.{AtRest};
 ghost use Rattle.rgo_acts.specs.Actors.{ActorActed, IsActorOf};
 ghost use Rattle.rgo_acts.specs.Resting.{IsAtTalk, IsTalk, RestsElsewhere};
 ghost use Rattle.rgo_acts.specs.Talks.{ActorCanAcknowledge, CanTry, TryConcludes, IsNumbered, OfAcknowledgement, OfClose, OfReceive, Says, Talks};
@@ -111,7 +111,7 @@ fn is_at_channel(body: &Body, program: &Program<'_>) -> bool
 /// found out about a channel lasts as long as it is before an operation on it.
 pub fn tries_again(actor: &mut Actor, run: &Run<'_, '_>) -> bool
     requires stands { IsActorOf run.now actor.old }
-    requires none { (at : ℕ) → actor.old.body.side ≡ Offering at → ⊥ }
+    requires none { OffersNothing actor.old.body }
     ensures acted { ActorActed run.now actor.old actor.new 0 [] [] }
     ensures yes { result ≡ true → IsAtTalk run.now.program actor.new.body × (actor.new ≡ actor.old) }
     ensures no { result ≡ false → actor.new ≡ record actor.old { body = record actor.old.body { side = AtRest } } }
@@ -148,7 +148,7 @@ fn conclude(
     requires possible { BodyIsPossible program.now body.old }
     requires ready { BodyIsReady program.now body.old next.now }
     requires does { IsDo (operation_of next.now.op) }
-    requires none { (at : ℕ) → body.old.side ≡ Offering at → ⊥ }
+    requires none { OffersNothing body.old }
     requires room { HasRoomBehind body.old next.now }
     requires count { body.old.counts.steps + 1 < 2 ^ 64 }
     ensures body { TryConcludes program.now body.old body.new at tried }

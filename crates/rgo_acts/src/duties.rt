@@ -30,14 +30,14 @@ use std::sync::ledger::Ledger;
 pub enum Attended {
     /// It is done.
     Done,
-    /// It creates a region, and each slot was found in use. The goroutine owes it as before; the run continues, since others may
-    /// free one.
+    /// It creates a region, and each slot was found in use. The goroutine owes it as before. The run continues, since others may free
+    /// one: only the driver can show that none will.
     Short,
     /// Memory ran out. The goroutine owes it as before.
     NoMemory,
 }
 
-/// Attends to the first duty, of which the caller knows that there is one.
+/// Attends to the first duty. The caller knows that it exists.
 pub fn attend<L: Ledger>(actor: &mut Actor, run: &Run<'_, '_>, steps: &mut Steps<L>) -> Attended
     requires first { (d : machine.Duty) × IsAtDuty run.now actor.old d }
     ensures { ActorAttends run.now actor.old actor.new result }
@@ -98,7 +98,7 @@ fn do_locally(body: &mut Body, program: &Program<'_>, duty: Duty) -> bool
     }
 }
 
-/// Creates a region.
+/// Creates a region. Memory for its name is taken first, since a slot that was taken cannot be returned without a removal.
 fn create<L: Ledger>(
     actor: &mut Actor,
     run: &Run<'_, '_>,
@@ -134,7 +134,7 @@ fn create<L: Ledger>(
     }
 }
 
-/// Protects a region.
+/// Protects a region: a local step, since a protection only keeps this goroutine from ending its own stake.
 fn protect(actor: &mut Actor, run: &Run<'_, '_>, name: u32) -> Attended
     requires first { IsAtDuty run.now actor.old (machine.Protect name) }
     ensures { ActorAttends run.now actor.old actor.new result }
@@ -157,7 +157,8 @@ fn unprotect(actor: &mut Actor, run: &Run<'_, '_>, name: u32)
     actor.behind += 1;
 }
 
-/// Takes a stake for a goroutine that is about to start, unless it has one.
+/// Takes a stake for a goroutine that is about to start, unless it has one. The parent does so while it has a stake of its own, so the
+/// count cannot reach its end in between.
 fn share<L: Ledger>(actor: &mut Actor, run: &Run<'_, '_>, name: u32, steps: &mut Steps<L>)
     requires first { IsAtDuty run.now actor.old (machine.Share name) }
     ensures { HasAttended run.now actor.old actor.new }
@@ -180,7 +181,7 @@ fn share<L: Ledger>(actor: &mut Actor, run: &Run<'_, '_>, name: u32, steps: &mut
     }
 }
 
-/// Removes a region.
+/// Removes a region. Only the last stake returns its pages; otherwise this goroutine just forgets it.
 fn remove<L: Ledger>(actor: &mut Actor, run: &Run<'_, '_>, name: u32, steps: &mut Steps<L>)
     requires first { IsAtDuty run.now actor.old (machine.Remove name) }
     ensures { HasAttended run.now actor.old actor.new }

@@ -1,5 +1,6 @@
 //! Ends of the run: the return of `main`, a trap, and limits. Each sets the end mark, a bit that is never cleared, and returns
-//! whether this has ended the run; it has not if another goroutine had set the mark before. Either answer stays true.
+//! whether this has ended the run; it has not if another goroutine had set the mark before. Either result stays true, so at most
+//! one goroutine ever gets `true`, and its mark says how the run ends.
 ghost use Rattle.std.specs.Prelude.{◌≡◌, ◌^◌, ◌<◌, ◌+◌, ◌∷◌, [], ℕ, List, Option, length, true};
 ghost use Rattle.rgo_body.specs.Bodies.{frames_of_body};
 ghost use Rattle.rgo_body.specs.Nexts.{IsNextOf};
@@ -41,7 +42,7 @@ pub fn stop(actor: &mut Actor, run: &Run<'_, '_>, limit: Limit) -> bool
     ends
 }
 
-/// Memory ran out.
+/// Memory ran out. The record shows no cause, as memory is outside the model; any goroutine may say so at any time.
 pub fn out_of_memory(actor: &mut Actor, run: &Run<'_, '_>) -> bool
     requires stands { IsActorOf run.now actor.old }
     ensures ended { ActorHasEnded run.now actor.old actor.new 0 (Stopped limit.Memory) result }
@@ -61,7 +62,7 @@ pub fn too_deep(actor: &mut Actor, run: &Run<'_, '_>, next: &Next<'_>) -> bool
     stop(actor, run, Limit::Calls)
 }
 
-/// The next instruction starts a goroutine, and a number was refused.
+/// The next instruction starts a goroutine, and a number was refused. The refusal is in the record, which is why this may end the run.
 pub fn too_many(actor: &mut Actor, run: &Run<'_, '_>, next: &Next<'_>) -> bool
     requires before { ActorIsBefore run.now actor.old next.now }
     requires starts { (n : ℕ) × (from : List ℕ) × (operation_of next.now.op ≡ Go n from) }
@@ -93,7 +94,7 @@ pub fn trap(actor: &mut Actor, run: &Run<'_, '_>, next: &Next<'_>, trap: Trap) -
     ends
 }
 
-/// `main` returns.
+/// `main` returns. Other goroutines may be in the middle of their turns; what they print after this is void.
 pub fn exit(actor: &mut Actor, run: &Run<'_, '_>, next: &Next<'_>, value: Option<u32>) -> bool
     requires before { ActorIsBefore run.now actor.old next.now }
     requires returns { operation_of next.now.op ≡ Return value }

@@ -5,7 +5,7 @@
 //! Invariants between two acts:
 //! - The body shows the record that the seat has, after `behind` local steps that no access has put into the run yet.
 //! - That record is possible: some run leads to a table in which a goroutine has it. What the code relies on without a test, such
-//!   as that a name stands for a region, follows from this.
+//!   as that a name has a region, follows from this.
 //! - Memory for what follows an act is taken before its first access, since an access cannot be undone.
 //!
 //! An act is called by the worker that has the goroutine's turn; nobody else has the actor then. Why: docs/DECISIONS.md,

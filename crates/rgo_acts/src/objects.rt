@@ -92,7 +92,8 @@ fn data_pages(page_words: usize, words: usize, before: usize) -> usize
     words.saturating_sub(before).saturating_sub(1) / page_words + 1
 }
 
-/// How many data pages an object may have.
+/// How many data pages an object may have. Their numbers must fit the lead page after at most two other words. The bound of 64 keeps the
+/// numbers short whatever the size of a page.
 fn most_data_pages(page_words: usize) -> usize
     ensures { result ≡ most_data_pages_of page_words }
 {
@@ -106,7 +107,8 @@ fn opening(new: New, i: usize) -> u64
     if i == new.place { new.value } else { 0 }
 }
 
-/// The own page, if it has room for an object.
+/// The own page, if it has room for an object. What is left of a page without room is not used again: to look for objects that fit it
+/// would cost more than the words.
 fn with_room(page: Option<Page>, words: usize, page_words: usize) -> Option<Page>
     requires { words ≤ page_words }
     ensures { MatchOption result (spec.HasNoRoomIn page_words words page)
@@ -192,7 +194,7 @@ fn make_on<L: Ledger>(
         .made(run.program, next, new.key, end, address as u64 + 1);
 }
 
-/// The same, without counting the accesses.
+/// The same for `execute`, which does not count accesses: it makes no search, and only searches have to be bounded.
 fn make_uncounted<L: Ledger>(
     actor: &mut Actor,
     run: &Run<'_, '_>,
@@ -216,7 +218,7 @@ fn make_uncounted<L: Ledger>(
     make_on(actor, run, next, new, page, &mut steps);
 }
 
-/// Claims a page for the next object.
+/// Claims a page for the next object. It becomes the own page there; the one before it keeps its objects and is filled no more.
 fn claim_page<L: Ledger>(
     actor: &mut Actor,
     run: &Run<'_, '_>,
@@ -322,7 +324,8 @@ fn make<L: Ledger>(
 
 // ---- an object that is spread
 
-/// Claims a page more for the next object, which is spread. Returns whether one was free.
+/// Claims a page more for the next object, which is spread. Returns whether one was free. The body keeps the page at once: the claim
+/// shows at the table, so it must not be forgotten if the next one fails.
 fn reserve_page<L: Ledger>(
     actor: &mut Actor,
     run: &Run<'_, '_>,
@@ -655,7 +658,8 @@ fn struct_words(run: &Run<'_, '_>, number: usize) -> usize
     }
 }
 
-/// Makes a struct of this number, to which variable `to` points.
+/// Makes a struct of this number, to which variable `to` points. Its fields are all 0, the zero value of each type, so no word is
+/// special.
 pub fn new_struct<L: Ledger>(
     actor: &mut Actor,
     run: &Run<'_, '_>,
@@ -745,7 +749,7 @@ pub fn new_slice<L: Ledger>(
     )
 }
 
-/// How many words a channel has: its control, its capacity, and at least one cell.
+/// How many words a channel has: its control, its capacity, and at least one cell. Without a buffer the cell holds the offer.
 fn channel_words(capacity: u64) -> usize
     requires { capacity < 2 ^ 63 }
     ensures { result ≡ channel_words_of capacity }

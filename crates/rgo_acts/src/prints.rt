@@ -29,7 +29,7 @@ pub struct Print {
     pub is_void: bool,
 }
 
-/// The int or bool that a word shows.
+/// The int or bool that a word shows. A word alone does not say which it is; the type of its variable does.
 fn value(ty: &Type, word: u64) -> Value
     ensures { result ≡ typed_in ty.now.layers ty.now.base word }
 {
@@ -66,7 +66,7 @@ fn operand(actor: &Actor, run: &Run<'_, '_>, next: &Next<'_>, variable: u32) -> 
     }
 }
 
-/// The values of the operands of a print.
+/// The values of the operands of a print. They are read before anything is drawn, as only memory can be refused here.
 fn operands(
     alloc: Global,
     actor: &Actor,

@@ -22,7 +22,8 @@ pub enum Outcome {
     Refused,
 }
 
-/// The next instruction starts a goroutine with this function and these arguments.
+/// The next instruction starts a goroutine with this function and these arguments. The new one is not run here: its parent's driver
+/// takes it over after the turn, and until then nobody but the parent knows it.
 ///
 /// # Errors
 ///

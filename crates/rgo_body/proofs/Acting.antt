@@ -1,4 +1,5 @@
--- A body after an instruction that an access has done shows the record after that.
+-- A body after an instruction that an access has done shows the record after that. One module serves all instructions: they differ only
+-- in the word that is written, in what is counted, and in what becomes of memory.
 use Rattle.std.proofs.Common.{◌≡◌, ◌⊎◌, ◌+◌, ◌*◌, ℕ, zero, suc, List, [], ◌∷◌, Option, None, refl, sym, ap, ◌∙◌, subst, length}
 use Rattle.std.specs.Option.{option_map_or}
 use Rattle.std.proofs.lemmas.List.{length-append}
@@ -276,7 +277,7 @@ module _ (T : Setup) (p : CompactProgram) (b m : Body) (c : Record) (next : Next
 
 -- ---- channels
 
--- without an offer at a channel the record has none
+-- without an offer at a channel the record has none, since both are shown by the same side
 no_offer : (k : Side) (known : SideRec) (offer : Offer) → SideShows k known offer → ((at : ℕ) → k ≡ side.Offering at → ⊥) → offer ≡ NoOffer
 no_offer side.AtRest known offer s none = s.1
 no_offer side.Tried known offer s none = s.2

@@ -1,4 +1,5 @@
--- A body after a duty shows the record after it.
+-- A body after a duty shows the record after it. The first duty of the queue is the first one that the record owes, since what is not in
+-- the queue yet comes after it.
 use Rattle.std.proofs.Common.{◌≡◌, ◌++◌, ◌<◌, ℕ, List, [], ◌∷◌, Option, Some, None, refl, sym, ap, ◌∙◌, subst, if◌then◌else◌, length, arith}
 use Rattle.std.specs.Option.{option_map}
 use Rattle.std.proofs.lemmas.Option.{same_Some}
@@ -127,7 +128,7 @@ IsKeyOf H o name = (slots : ℕ) (h : Holder) (fills : List Fill) → IsHoldingO
 pub some_environment : (c : Record) (e : RegionEnvironment) → HasNewest c e → 0 < length c.frame.holder.environments
 some_environment c e n = let l = ap (λ (es : List RegionEnvironment). length es) n.environments in omega (arith, l)
 
--- ---- memory alone
+-- ---- memory alone: what a body shows does not depend on its room
 
 pub with_holding : (T : Setup) (p : CompactProgram) (b : Body) (c : Record) (H : Holding) → BodyShows T p b c → KeepsHolding b.holding H
     → BodyShows T p (record b { holding = H }) c

@@ -1,4 +1,5 @@
--- Calls and returns that pass or protect regions.
+-- Calls and returns that pass or protect regions. The hard case is the return: the caller must be at a call of the function that runs,
+-- which no field of the body says. It follows from the runs that lead to the record.
 use Rattle.std.proofs.Common.{◌≡◌, ◌≤◌, ◌<◌, ◌+◌, ◌++◌, ℕ, false, List, [], ◌∷◌, Option, Some, None, inl, inr, refl, sym, ap, ◌∙◌, subst, arith, length, map, drop, slice_get, unwrap_or, Contains, option_to_list}
 use Rattle.std.specs.List.Sorted.{IsStrictlyIncreasing}
 use Rattle.std.specs.Option.{option_map}
@@ -343,7 +344,7 @@ module _ (T : Setup) (p : CompactProgram) (b d : Body) (g : ℕ) (c : Record) (n
     pub ends_exit : (clock : ℕ) → BodyShows T p d (ending T.code c clock (Ended Exit))
     ends_exit = exit_shows T p b d g c next s ready rests value op owes_base belongs last_frames held
 
--- the room that was taken is enough
+-- the room that was taken is enough, whichever record the body shows: it was counted from the code
 pub room_enough : (p : CompactProgram) (b : Body) (call : Next) (y : BodyIsPossible p b) (program : IsCompactProgram p)
     → IsNextOf p.code (drop 1 (frames_of_body b)) call → HasRoomBack p b
     → length (protects_in (slice_get call.function.body call.at)) + length (removes_at call) ≤ b.queue.room

@@ -1,4 +1,4 @@
--- An action that touches nothing but words is a local step.
+-- An action that touches nothing but words is a local step: its definition and that of a quiet step compute the same word.
 use Rattle.std.proofs.Common.{◌≡◌, ◌≤◌, ℕ, List, [], ◌∷◌, Option, Some, refl, sym, ap, ◌∙◌, subst, length}
 use Rattle.std.specs.Option.{option_map, option_map_or}
 use Rattle.rgo_sound.specs.Code.Code.{Branch, Call, Code, CodeOp, Do, Go, Jump, Print, Return}

@@ -1,4 +1,5 @@
--- A body after it has created a region, and after it has put before an instruction what is owed there.
+-- A body after it has created a region, and after it has put before an instruction what is owed there. The new slot must be unknown to
+-- the holding: nobody has a stake in it, and whoever knows a slot has one.
 use Rattle.std.proofs.Common.{◌≡◌, ◌≢◌, ◌++◌, ◌+◌, ◌<◌, ◌||◌, ℕ, suc, Bool, true, false, List, [], ◌∷◌, Option, Some, None, refl, sym, ap, ◌∙◌, subst, if◌then◌else◌, length, map, nat_eq, slice_get, arith, Result, Ok, Err, OnOk}
 use Rattle.std.specs.declared.alloc.AllocError.{AllocError}
 use Rattle.rgo_sound.proofs.Tests.{eq_of}
@@ -38,7 +39,7 @@ use Rattle.rgo_body.specs.declared.nexts.Next.{Next}
 use Rattle.rgo_body.proofs.Attending.{attended, done_shows, first, later, some_environment}
 use Rattle.rgo_body.proofs.Removing.{unguarded_from}
 
--- ---- nothing is known of a slot in which there is no stake
+-- ---- nothing is known of a slot without a stake of this goroutine, so the slot of a new region is new to it
 
 none_from : (slot : ℕ) (l : List ℕ) → times_in slot l ≡ 0 → list_any (nat_eq slot) l ≡ false
 none_from slot [] none = refl

@@ -1,4 +1,4 @@
--- The examples.
+-- The examples, by computation; those that must not hold are refuted by one field that differs.
 use Rattle.std.proofs.Common.{◌≡◌, ℕ, List, [], ◌∷◌, Option, Some, None, inl, inr, refl, sym, ap, ◌∙◌, arith, pos}
 use Rattle.rgo_compact.specs.Examples.{adding_code}
 use Rattle.rgo_compact.specs.Runs.{frame_at}

@@ -1,4 +1,5 @@
--- A body after a run of the loop.
+-- A body after a run of the loop. The loop changes words and frames alone; the holding is settled by the number of frames that were kept,
+-- and the rest of the record is as it was.
 use Rattle.std.proofs.Common.{◌≡◌, ◌+◌, ◌≤◌, ℕ, List, [], ◌∷◌, Option, Some, None, refl, sym, ap, ◌∙◌, subst, false, length, arith}
 use Rattle.std.specs.List.{AllByRecursion}
 use Rattle.rgo_compact.specs.Environs.{Environs, IsBare}
@@ -28,7 +29,7 @@ use Rattle.rgo_body.specs.declared.bodies.Side.{Side}
 use Rattle.rgo_body.specs.declared.bodies.Side.TheVariants as side
 use Rattle.rgo_body.proofs.Showing.{owes_next}
 
--- a goroutine has as many frames as it may, or fewer
+-- a goroutine has no more frames than it may, which the loop asks before it begins
 pub few_frames : (fs : List CompactFn) (s : Stack) → Belongs fs s → length (frames_of_stack s) ≤ deepest
 few_frames fs s belongs = by_at s.at refl
   where

@@ -1,4 +1,5 @@
--- What an instruction of the code is, by what it does without regions.
+-- What an instruction of the code is, by what it does without regions: erasure keeps the kind of an operation, so the test of a decoded
+-- instruction is one of the code's.
 use Rattle.std.proofs.Common.{◌≡◌, ℕ, List, Option}
 use Rattle.rgo_sound.specs.Code.Code.{Branch, Call, CodeOp, Do, Go, Jump, Print, Return}
 use Rattle.rgo_sound.specs.Code.Erasure.{erased_op}

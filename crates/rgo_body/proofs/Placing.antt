@@ -1,4 +1,5 @@
--- What a possible body may do next, as its stack asks it.
+-- What a possible body may do next, as its stack asks it. All comes from one fact: a possible record is at a well-formed instruction of
+-- checked code, with as many variables as its function has.
 use Rattle.std.proofs.Common.{◌≡◌, inl, inr, ◌+◌, ◌<◌, ◌≤◌, arith, ℕ, List, ◌∷◌, Option, Some, None, refl, sym, ap, ◌∙◌, subst, length, slice_get}
 use Rattle.std.proofs.lemmas.List.{length-map}
 use Rattle.std.proofs.lemmas.Option.{same_Some}

@@ -1,4 +1,4 @@
--- The ends of protections are put in front of a queue, the last first.
+-- The ends of protections are put in front of a queue, the last first, so that the first comes first. By induction over what is left.
 use Rattle.std.proofs.Common.{◌≡◌, ◌≤◌, ◌<◌, ◌+◌, ◌-◌, ◌++◌, ℕ, List, ◌∷◌, Some, sym, ap, ◌∙◌, arith, drop, length, map, slice_get}
 use Rattle.std.proofs.lemmas.List.{drop_all, drop_more}
 use Rattle.std.proofs.lemmas.Option.{get_or_from_slice_get}

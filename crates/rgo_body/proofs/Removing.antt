@@ -1,4 +1,5 @@
--- Duties that remove a region or end a protection that it has had since the start.
+-- Duties that remove a region or end a protection that it has had since the start. They share the tests and what follows the end of a
+-- stake: that nothing of the holding leads to the slot any more, which is the hard part.
 use Rattle.std.proofs.Common.{◌≡◌, ◌≢◌, ◌++◌, ◌<◌, ◌||◌, ℕ, suc, Bool, true, false, List, [], ◌∷◌, Option, Some, None, refl, sym, ap, ◌∙◌, subst, if◌then◌else◌, map, slice_get, option_and_then, drop, true≢false}
 use Rattle.std.proofs.lemmas.Option.{same_Some, some_pair_parts}
 use Rattle.std.specs.List.{list_any}

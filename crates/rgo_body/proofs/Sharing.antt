@@ -1,4 +1,5 @@
--- Duties that protect a region, end a protection, or take a stake for a coming child.
+-- Duties that protect a region, end a protection, or take a stake for a coming child. That each name has a key is region safety: a
+-- possible record never owes a duty of a name without a region.
 use Rattle.std.proofs.Common.{◌≡◌, ◌++◌, ◌<◌, ℕ, Bool, true, false, List, ◌∷◌, Option, Some, None, refl, sym, ap, ◌∙◌, subst, if◌then◌else◌, length, nat_eq, option_and_then, true≢false}
 use Rattle.std.proofs.lemmas.Option.{same_Some, some_pair_parts}
 use Rattle.std.specs.List.{list_any}
@@ -86,7 +87,7 @@ module _ (p : CompactProgram) (b e : Body) (name : ℕ) (key : Key) (keyed : IsK
   local_share h GlobalRegion n l = duty_laws.share_global h name n
   local_share h (Numbered q) n l = duty_laws.share_again h name q n l
 
-  -- what tells whether one is to be taken
+  -- the test of whether one is to be taken
   abbrev pub TellsShare : Bool → Type 0
   TellsShare has = (slots : ℕ) (h : Holder) (fills : List Fill) (r : Region) → IsHoldingOf slots b.holding h fills
       → region_of_key b.holding key ≡ Some r → has ≡ has_share h.pending r

@@ -1,4 +1,5 @@
--- A body shows a record after a step, given what has changed of both.
+-- A body shows a record after a step, given what has changed of both. The general part of all proofs here: the two sides are compared
+-- field by field, and a field that neither changes is done at once.
 use Rattle.std.proofs.Common.{◌≡◌, ◌⊎◌, inl, inr, if◌then◌else◌, ℕ, List, [], ◌∷◌, ◌++◌, Some, refl, sym, ap, ◌∙◌, subst, length, map, slice_get, false}
 use Rattle.std.proofs.lemmas.List.{append-nil}
 use Rattle.rgo_sound.specs.Code.Code.{Branch, Call, Code, CodeInstr, CodeOp, Do, Go, Jump, Print, Return}
@@ -27,7 +28,7 @@ use Rattle.rgo_body.specs.Steps.{BodyContinues}
 use Rattle.rgo_body.specs.declared.bodies.Body.{Body}
 use Rattle.rgo_body.specs.declared.nexts.Next.{Next}
 
--- ---- records that no body tells apart
+-- ---- records that look the same to every body
 
 pub like_shown : LikeShown
 like_shown T p b c d s like = record {
@@ -181,7 +182,7 @@ owed_behind p b m after removes goes none =
     ∙ ap (λ ds. ds ++ next_duties p.code (bare_all (frames_of_body m)))
     (goes.queue ∙ ap (λ ds. map Remove removes ++ ds) none ∙ append-nil (map Remove removes))
 
--- ---- one that goes on. Its counts, and what it knows of channels, are d's.
+-- ---- one that continues. Its counts, and what it knows of channels, are d's.
 
 module _ (T : Setup) (p : CompactProgram) (b m : Body) (c : Record) (next : Next) (word : ℕ) (s : BodyShows T p b c) (ready : BodyIsReady p b next)
     (goes : BodyContinues p b m (after_word (action_target (operation_of next.op)) word) (removes_at next)) where

@@ -1,4 +1,5 @@
--- A goroutine that begins shows the record with which it begins.
+-- A goroutine that begins shows the record with which it begins. `main` is looked up by its name; a child gets the words and regions that
+-- the record of its parent has at the start.
 use Rattle.std.proofs.Common.{◌≡◌, ◌<◌, ◌+◌, ◌++◌, arith, IfOk, Result, Ok, Err, if◌then◌else◌, bytes_eq, codes, drop, ℕ, zero, suc, Bool, true, false, List, [], ◌∷◌, Option, Some, None, refl, sym, ap, ◌∙◌, subst, length, map, slice_get}
 use Rattle.std.proofs.lemmas.List.{drop_more}
 use Rattle.std.proofs.lemmas.Option.{get_or_from_slice_get, same_Some, slice_get_within}

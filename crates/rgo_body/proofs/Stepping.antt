@@ -1,4 +1,4 @@
--- An instruction that is a local step.
+-- An instruction that is a local step: nothing is owed before it, so the next step of the record is the instruction itself.
 use Rattle.std.proofs.Common.{◌≡◌, ◌≤◌, ℕ, zero, suc, Bool, false, List, [], ◌∷◌, Some, None, refl, ap, ◌∙◌, if◌then◌else◌, length, option_and_then}
 use Rattle.std.specs.Option.{option_map}
 use Rattle.rgo_sound.specs.Code.Code.{Code, CodeInstr}

@@ -1,4 +1,5 @@
--- Jumps, branches, calls and returns are local steps, and a body shows the record after each of them.
+-- Jumps, branches, calls and returns are local steps, and a body shows the record after each of them. The step is computed from the
+-- record, the queue from the code; both list the same duties.
 use Rattle.std.proofs.Common.{◌≡◌, ◌≤◌, arith, ◌++◌, ℕ, suc, Bool, true, false, List, [], ◌∷◌, Option, Some, None, OnOk, Result, Ok, Err, refl, sym, ap, ◌∙◌, subst, if◌then◌else◌, length, map, drop, slice_get}
 use Rattle.std.proofs.lemmas.Bool.Decides.{nat_tests}
 use Rattle.std.proofs.lemmas.List.{append-nil}

@@ -1,4 +1,5 @@
--- What a body owes, and what is next for it.
+-- What a body owes, and what is next for it. Both are in terms of the code and of the frames that the stack shows, so that they can be
+-- compared with the record.
 use Rattle.std.specs.Prelude.{◌≡◌, ◌<◌, ◌≤◌, ◌+◌, ℕ, true, false, List, [], ◌++◌, if◌then◌else◌, length, map}
 use Rattle.rgo_sound.specs.Code.Code.{Code}
 use Rattle.rgo_core.specs.Frames.shown.WordFrames.{WordFrame, bare_all}
@@ -12,7 +13,7 @@ use Rattle.rgo_body.specs.Nexts.{IsNextOf, removes_at}
 use Rattle.rgo_body.specs.Programs.{CompactProgram}
 use Rattle.rgo_body.specs.Reserves.{none_reserved}
 use Rattle.rgo_body.specs.declared.bodies.Body.{Body}
-use Rattle.rgo_body.specs.declared.bodies.Side.TheVariants.{AtRest}
+use Rattle.rgo_body.specs.declared.bodies.Side.TheVariants.{AtRest, Offering}
 use Rattle.rgo_body.specs.declared.nexts.Next.{Next}
 
 abbrev pub frames_of_body : Body → List WordFrame
@@ -28,15 +29,21 @@ pub record BodyIsReady (p : CompactProgram) (b : Body) (next : Next) : Type 0 wh
   pub expanded : b.is_expanded ≡ true
   pub is_next : IsNextOf p.code (frames_of_body b) next
 
--- there is room for what is owed after this instruction
+-- There is room for what is owed after this instruction. A premise of every operation that follows an access: it cannot fail.
 abbrev pub HasRoomBehind : Body → Next → Type 0
 HasRoomBehind b next = length (removes_at next) ≤ b.queue.room
+
+-- It has no offer at a channel. Only such a goroutine may try an operation or know of no channel: one that has an offer stays at its
+-- send until it has acknowledged that the offer was taken.
+abbrev pub OffersNothing : Body → Type 0
+OffersNothing b = (at : ℕ) → b.side ≡ Offering at → ⊥
 
 -- ---- counts
 
 -- one more of each can be counted, and as many pages as an object may have
 pub record CanCount (n : Counts) : Type 0 where
   pub made : n.made + 1 < 18446744073709551616
+  -- at most one region is removed by a duty
   pub removed : n.removed + 1 < 18446744073709551616
   pub taken : n.taken + 65 < 18446744073709551616
   pub steps : n.steps + 1 < 18446744073709551616

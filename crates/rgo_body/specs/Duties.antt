@@ -1,4 +1,5 @@
--- What a duty of a body does, where it needs an access and where it needs none.
+-- What a duty of a body does, with an access and without one. Whether it needs one depends on the holder of the record, which no body
+-- has; so the tests of the code are compared with tests of any holder that the holding shows.
 use Rattle.std.specs.List.{list_any}
 use Rattle.std.specs.Prelude.{◌≡◌, ◌+◌, ℕ, suc, Bool, true, List, ◌∷◌, Some, nat_eq}
 use Rattle.rgo_core.specs.Memory.Records.{Fill}
@@ -34,7 +35,7 @@ pub record HasDoneDuty (b d : Body) : Type 0 where
 abbrev pub DoesLocal : CompactProgram → (before after : Body) → Type 0
 DoesLocal p b d = TakesLocal p 1 b d × HasDoneDuty b d × (d.counts ≡ b.counts)
 
--- a stake is to be taken in the region of this key, whatever record the body shows
+-- a stake is to be taken in the region of this key, whatever record the body shows: the premise of the access that takes it
 pub record SharesIn (p : CompactProgram) (b : Body) (key : Key) : Type 0 where
   pub slot : ℕ
   pub region : region_of_key b.holding key ≡ Some (Numbered slot)

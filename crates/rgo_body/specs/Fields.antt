@@ -1,4 +1,4 @@
--- How many fields the struct has of which an instruction loads or stores one.
+-- How many fields the struct has of which an instruction loads or stores one: it decides whether the field is in the page of its object.
 use Rattle.std.specs.Prelude.{◌≡◌, ℕ, length}
 use Rattle.rgo_core.specs.Core.{Setup}
 use Rattle.rgo_core.specs.Next.{IsAtOp}

@@ -1,4 +1,5 @@
--- The duties that a goroutine keeps in a queue.
+-- The duties that a goroutine keeps in a queue. `room` is a part of the value, since contracts ask for it: a duty after an access must
+-- find memory.
 use Rattle.std.specs.Prelude.{ℕ, List, map, reverse}
 use Rattle.rgo_sound.specs.RegionMachine.States as machine
 use Rattle.rgo_body.specs.declared.queues.Duty.{Duty}

@@ -1,4 +1,5 @@
--- The record of a goroutine, as its body shows it between two instructions or duties.
+-- The record of a goroutine, as its body shows it between two instructions or duties. It is a relation and not a function: many records
+-- look the same to the code, which keeps no dead variables and no list of its accesses.
 use Rattle.std.specs.Prelude.{◌≡◌, ℕ, length}
 use Rattle.rgo_core.specs.Channels.Records.{Free, Nowhere, Offering, ChannelRec as SideRec, at_rest}
 use Rattle.rgo_core.specs.Memory.Records.{Calm, Idle, Rec as MemoryRec, Rest}
@@ -20,7 +21,8 @@ SideShows side.AtRest known offer = (known ≡ at_rest) × (offer ≡ NoOffer)
 SideShows side.Tried known offer = (known.hold ≡ Free) × (known.post ≡ Nowhere) × (offer ≡ NoOffer)
 SideShows (side.Offering at) known offer = (known.hold ≡ Free) × (known.post ≡ Offering at) × (offer ≡ Standing 0)
 
--- no object is half made, no page is claimed and not linked, and no chain is being returned
+-- No object is half made, no page is claimed and not linked, and no chain is being returned. In the middle of such an act a body shows
+-- nothing: the act has to be brought to its end first.
 pub record IsMemoryCalm (m : MemoryRec) (owed : ℕ) : Type 0 where
   pub make : m.make ≡ Rest
   pub claim : m.claim ≡ Idle
@@ -28,16 +30,20 @@ pub record IsMemoryCalm (m : MemoryRec) (owed : ℕ) : Type 0 where
   pub none : owed ≡ 0
 
 pub record BodyShows (T : Setup) (p : CompactProgram) (b : Body) (c : Record) : Type 0 where
+  -- the record is one of a run of this very code
   pub code : T.code ≡ p.code
   pub belongs : Belongs p.compact b.stack
   pub frames : c.frame.frames ≡ frames_of_body b
   pub holds : IsHoldingOf T.sizes.regions b.holding c.frame.holder c.memory.fills
+  -- in this order: the first one is the lead page
   pub reserved : c.memory.reserved.pages ≡ b.reserved.pages
   pub owes : c.frame.holder.duties ≡ owed_by_body p.code b
   pub side : SideShows b.side c.side c.frame.holder.offer
   pub calm : IsMemoryCalm c.memory c.clock.owed
   pub share : c.clock.share ≡ b.counts
+  -- their bytes are with the driver, so the body keeps only how many there were
   pub prints : length c.clock.prints ≡ b.prints
+  -- a limit of goroutines may end the run only after a refusal
   pub refused : c.clock.refused ≡ b.refused
 
 -- the body shows the record that some goroutine has at some moment of some run

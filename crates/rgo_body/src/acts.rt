@@ -22,7 +22,7 @@ ghost use Rattle.rgo_body.specs.Bodies.{HasRoomBehind, BodyIsReady};
 ghost use Rattle.rgo_body.specs.Nexts.{FollowsOn, IsDo, IsGoOp, IsPrint, removes_at, action_target};
 ghost use Rattle.rgo_body.specs.Reserves.{none_reserved};
 ghost use Rattle.rgo_body.specs.Shows.{BodyIsPossible, BodyShows};
-ghost use Rattle.rgo_body.specs.Steps.{Becomes, BodyContinues, IsRoomier};
+ghost use Rattle.rgo_body.specs.Steps.{Becomes, BecomesIf, BodyContinues, IsRoomier};
 
 use crate::bodies::Body;
 use crate::nexts::Next;
@@ -45,7 +45,8 @@ impl Body {
         self.queue.reserve(next.removes().len())
     }
 
-    /// It continues after its next instruction, which has written this word to its target variable, if it has one.
+    /// It continues after its next instruction, which has written this word to its target variable, if it has one. The names that the
+    /// instruction removes become duties; what it owes before the instruction after it is not looked up yet.
     pub(crate) fn go_on(&mut self, program: &Program<'_>, next: &Next<'_>, word: u64)
         requires possible { BodyIsPossible program.now self.old }
         requires ready { BodyIsReady program.now self.old next.now }
@@ -97,8 +98,7 @@ impl Body {
         requires does { IsDo (operation_of next.now.op) }
         requires room { HasRoomBehind self.old next.now }
         requires count { (self.old.counts.steps + 1 < 2 ^ 64) × (self.old.counts.objects + 1 < 2 ^ 64) }
-        ensures shows { (T : Setup) (c : Record) → BodyShows T program.now self.old c → suc (reserved_address T c) ≡ word
-            → BodyShows T program.now self.new (making_apart T c) }
+        ensures shows { BecomesIf program.now self.old self.new (λ T c. suc (reserved_address T c) ≡ word) (λ T c. making_apart T c) }
         ensures none { self.new.reserved ≡ none_reserved }
         ensures side { self.new.side ≡ self.old.side }
         ensures not_yet { self.new.is_expanded ≡ false }
@@ -108,7 +108,7 @@ impl Body {
         self.counts.add_object();
     }
 
-    /// It has printed.
+    /// It has printed. The line is not kept here: the goroutine hands it to its driver with its ticket.
     pub fn printed(&mut self, program: &Program<'_>, next: &Next<'_>)
         requires possible { BodyIsPossible program.now self.old }
         requires ready { BodyIsReady program.now self.old next.now }
@@ -136,14 +136,14 @@ impl Body {
         self.counts.add_goroutine();
     }
 
-    /// A number was refused to it.
+    /// A number was refused to it, since the run has as many goroutines as it may have.
     pub fn refuse(&mut self, program: &Program<'_>)
         ensures { Becomes program.now self.old self.new (λ T c. refusing c) }
     {
         self.refused = true;
     }
 
-    /// Its next instruction has trapped.
+    /// Its next instruction has trapped. The frames stay before that instruction, as the end of a run shows them there.
     pub fn trapped(&mut self, program: &Program<'_>)
         requires count { self.old.counts.steps + 1 < 2 ^ 64 }
         ensures becomes { (clock : ℕ) (trap : _) (place : ℕ)

@@ -1,4 +1,4 @@
-//! The body of a goroutine, and what is read of it.
+//! The body of a goroutine, and what is read of it. No other goroutine ever reads or changes it, so all its fields are plain.
 
 ghost use Rattle.std.specs.Prelude.{◌≡◌, ◌<◌, ◌∷◌, [], ℕ, List, MatchOption, Some, length};
 ghost use Rattle.rgo_core.specs.Frames.shown.WordFrames.{WordFrame, frame_word};
@@ -19,12 +19,13 @@ use crate::reserves::Reserved;
 use rgo_holding::{Holding, Key};
 use rgo_stack::Stack;
 
-/// What a goroutine knows of a channel.
+/// What a goroutine knows of a channel. It is kept only while the goroutine is before an operation on that channel.
 #[derive(Clone, Copy, Debug, PartialEq, Eq)]
 pub enum Side {
     /// Nothing.
     AtRest,
-    /// The operation at which it is was not ready when it was tried.
+    /// The operation at which it is was not ready when it was tried. The record then knows the control that was found, which the
+    /// law of deadlocks asks for.
     Tried,
     /// Its offer is at the channel whose control is this word of the table: not taken, or taken and not acknowledged.
     Offering(usize),
@@ -37,15 +38,16 @@ pub struct Body {
     /// What it has of regions.
     pub(crate) holding: Holding,
     pub(crate) queue: Queue,
-    /// Whether what it owes before its next instruction is in the queue.
+    /// Whether what it owes before its next instruction is in the queue. An empty queue alone does not say that nothing is owed.
     pub(crate) is_expanded: bool,
     pub(crate) side: Side,
     pub(crate) counts: Counts,
-    /// The pages for the spread object that its next instruction makes.
+    /// The pages for the spread object that its next instruction makes. They last over turns: if no page is free for the next one,
+    /// those that were claimed stay claimed.
     pub(crate) reserved: Reserved,
     /// How many prints it has made.
     pub(crate) prints: u64,
-    /// Whether a number was refused to it.
+    /// Whether a number was refused to it when it was about to start a goroutine. It does not ask again: the run ends with that limit.
     pub(crate) refused: bool,
 }
 
@@ -103,7 +105,7 @@ impl Body {
         self.refused
     }
 
-    /// The slot of a region that it knows.
+    /// The slot of a region that it knows; the slot after all others for Global.
     #[inline(always)]
     pub fn slot(&self, key: Key) -> u32
         requires possible { (p : Program_) × BodyIsPossible p self.now }

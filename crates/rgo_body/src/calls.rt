@@ -24,7 +24,8 @@ use rgo_holding::Holding;
 use rgo_stack::NoCall;
 use std::alloc::AllocError;
 
-/// The ends of the protections since a goroutine started come before all other duties.
+/// The ends of the protections since a goroutine started come before all other duties. They are put from the last to the first, since
+/// each comes before those that were put before it.
 fn put_base(queue: &mut Queue, holding: &Holding)
     requires room { HasBaseRoom holding.now queue.old.room }
     ensures { (h : Holder) (fills : List Fill) (slots : ℕ) → IsHoldingOf slots holding.now h fills
@@ -42,7 +43,8 @@ fn put_base(queue: &mut Queue, holding: &Holding)
 }
 
 impl Body {
-    /// It continues with another instruction of its function, and removes these names.
+    /// It continues with another instruction of its function, and removes these names. Room is taken first: after the jump, a refusal
+    /// would leave the instruction half made.
     ///
     /// # Errors
     ///
@@ -125,7 +127,8 @@ impl Body {
         }
     }
 
-    /// Its next instruction calls this function with these variables.
+    /// Its next instruction calls this function with these variables. All room is taken before the frame is made. The stack comes last
+    /// of the three, since its change is the first that shows.
     ///
     /// # Errors
     ///
@@ -190,7 +193,7 @@ impl Body {
         }
     }
 
-    /// Room for what is owed after its newest function has returned.
+    /// Room for what is owed after its newest function has returned. Taken apart from the return, so that the return cannot fail.
     ///
     /// # Errors
     ///

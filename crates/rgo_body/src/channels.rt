@@ -1,18 +1,15 @@
 //! Operations on channels: what the body is after one was done, was not ready, or has offered a value.
 
-ghost use Rattle.std.specs.Prelude.{◌≡◌, ◌^◌, ◌+◌, ◌<◌, ℕ};
+ghost use Rattle.std.specs.Prelude.{◌≡◌, ◌^◌, ◌+◌, ◌<◌};
 ghost use Rattle.rgo_core.specs.moves.Commits.{offers};
-ghost use Rattle.rgo_core.specs.Core.{Setup};
-ghost use Rattle.rgo_core.specs.Records.{Record};
-ghost use Rattle.rgo_core.specs.Channels.Records as sides;
+ghost use Rattle.rgo_core.specs.Channels.Records.{at_rest};
 ghost use Rattle.rgo_core_steps.specs.After.{acknowledging, committing};
-ghost use Rattle.rgo_core_steps.specs.Calls.{waited};
 ghost use Rattle.rgo_sound.specs.Tac.Ops.{operation_of};
-ghost use Rattle.rgo_body.specs.Bodies.{HasRoomBehind, BodyIsReady};
+ghost use Rattle.rgo_body.specs.Bodies.{HasRoomBehind, BodyIsReady, OffersNothing};
 ghost use Rattle.rgo_body.specs.Nexts.{IsDo};
-ghost use Rattle.rgo_body.specs.Shows.{BodyIsPossible, BodyShows};
-ghost use Rattle.rgo_body.specs.Steps.{Becomes};
-ghost use Rattle.rgo_body.specs.declared.bodies.Side.TheVariants.{AtRest, Offering, Tried};
+ghost use Rattle.rgo_body.specs.Shows.{BodyIsPossible};
+ghost use Rattle.rgo_body.specs.Steps.{Becomes, BecomesIf, TriesOperation};
+ghost use Rattle.rgo_body.specs.declared.bodies.Side.TheVariants.{AtRest};
 
 use crate::bodies::{Body, Side};
 use crate::nexts::Next;
@@ -25,7 +22,7 @@ impl Body {
         requires possible { BodyIsPossible program.now self.old }
         requires ready { BodyIsReady program.now self.old next.now }
         requires does { IsDo (operation_of next.now.op) }
-        requires side { (at : ℕ) → self.old.side ≡ Offering at → ⊥ }
+        requires side { OffersNothing self.old }
         requires room { HasRoomBehind self.old next.now }
         requires count { self.old.counts.steps + 1 < 2 ^ 64 }
         ensures { Becomes program.now self.old self.new (λ T c. committing T.code c word) }
@@ -56,18 +53,16 @@ impl Body {
 
     /// Its operation was tried, and was not ready.
     pub fn tried(&mut self, program: &Program<'_>)
-        requires side { (at : ℕ) → self.old.side ≡ Offering at → ⊥ }
-        ensures { (T : Setup) (c : Record) (n : ℕ) (side : sides.ChannelRec) → BodyShows T program.now self.old c
-            → side.hold ≡ sides.Free → side.post ≡ sides.Nowhere → BodyShows T program.now self.new (waited n c side) }
+        requires side { OffersNothing self.old }
+        ensures { TriesOperation program.now self.old self.new }
     {
         self.side = Side::Tried;
     }
 
     /// It is not at an operation on a channel, so from here on it knows nothing of channels.
     pub fn rest(&mut self, program: &Program<'_>)
-        requires side { (at : ℕ) → self.old.side ≡ Offering at → ⊥ }
-        ensures rests { (T : Setup) (c : Record) → BodyShows T program.now self.old c → c.side ≡ sides.at_rest
-            → BodyShows T program.now self.new c }
+        requires side { OffersNothing self.old }
+        ensures rests { BecomesIf program.now self.old self.new (λ T c. c.side ≡ at_rest) (λ T c. c) }
         ensures same { self.new ≡ record self.old { side = AtRest } }
     {
         self.side = Side::AtRest;

@@ -1,4 +1,5 @@
 //! What a goroutine has made and done. Each goroutine counts for itself, so that no word is shared for it; the driver adds up.
+//! Most functions have room for one more as a premise: the turn asks `has_room` once before each instruction.
 
 ghost use Rattle.std.specs.Prelude.{◌≡◌, ◌↔◌, ◌^◌, ◌≤◌, ◌<◌, ◌+◌, ℕ, suc, true};
 ghost use Rattle.rgo_sound.specs.Tally.{no_share};
@@ -38,7 +39,7 @@ impl Model for Counts {
 }
 
 impl Counts {
-    /// Nothing; of `main`, itself.
+    /// Nothing was made or done. `main` counts itself, since no other goroutine has started it.
     pub(crate) fn new(goroutines: u64) -> Counts
         ensures { result ≡ record no_share { goroutines = goroutines } }
     {
@@ -116,7 +117,8 @@ impl Counts {
         self.returned += pages;
     }
 
-    /// Whether one more of each can be counted, and as many pages as an object may have.
+    /// Whether one more of each can be counted, and as many pages as an object may have. It is practically always so: at a step each
+    /// nanosecond, 64 bits last for centuries.
     pub fn has_room(&self) -> bool
         ensures { (result ≡ true) ↔ CanCount self.now }
     {

@@ -1,8 +1,8 @@
 //! What a goroutine owes around its instructions. Duties that end in a change of a shared count return the region, and the act at
 //! the table follows; all others are done here.
 //!
-//! The name of a first duty always stands for a region: the record is possible, and region safety says so of every run. So the
-//! early returns for a name without a region are never taken.
+//! The name of a first duty always has a region: the record is possible, and region safety holds for every run. So the early
+//! returns for a name without a region are never taken.
 
 ghost use Rattle.std.specs.Prelude.{◌≡◌, ◌++◌, Some, map, slice_get, ◌^◌, ◌+◌, ◌<◌, ◌∷◌, [], ℕ, List, MatchOption, OnErr, OnOk, false, true};
 ghost use Rattle.rgo_sound.specs.Code.Code.{CodeInstr};
@@ -28,7 +28,7 @@ ghost use Rattle.rgo_body.specs.Duties as spec;
 ghost use Rattle.rgo_body.specs.Nexts.{IsNextOf};
 ghost use Rattle.rgo_body.specs.Programs as spec_program;
 ghost use Rattle.rgo_body.specs.Shows.{BodyIsPossible, BodyShows};
-ghost use Rattle.rgo_body.specs.Steps.{Becomes, StillShows, TakesLocal};
+ghost use Rattle.rgo_body.specs.Steps.{Becomes, BecomesHere, BecomesIf, StillShows};
 ghost use Rattle.rgo_body.specs.declared.bodies.Side.TheVariants.{AtRest};
 
 use crate::bodies::Body;
@@ -62,7 +62,7 @@ fn is_kept(holding: &Holding, key: Key) -> bool
     }
 }
 
-/// The same of the first region of the base, when that protection ends.
+/// The same of the first region of the base, when that protection ends. The protection that ends must not count for itself.
 fn is_kept_beyond_base(holding: &Holding, key: Key) -> bool
     ensures { (slots : ℕ) (h : machine.Holder) (fills : List Fill) (r : Region_) (rest : List Region_) → IsHoldingOf slots holding.now h fills
         → region_of_key holding.now key ≡ Some r → h.base ≡ r ∷ rest → result ≡ spec.is_kept rest h.environments r }
@@ -73,7 +73,7 @@ fn is_kept_beyond_base(holding: &Holding, key: Key) -> bool
     }
 }
 
-/// What a duty that ends a stake does to names and protections.
+/// What a duty that ends a stake does to names and protections. Done after the access: until then the record still has the name.
 fn forget(holding: &mut Holding, duty: Duty)
     ensures forgets { spec.Forgets holding.old holding.new duty }
     ensures regions { SameRegions holding.old holding.new }
@@ -87,7 +87,8 @@ fn forget(holding: &mut Holding, duty: Duty)
     }
 }
 
-/// What is owed before an instruction comes into a queue.
+/// What is owed before an instruction comes into a queue. Room for all of it is taken first, since the queue must not have a part. The
+/// creates are put last and so come first: what is passed or protected may be a region that is created here.
 ///
 /// # Errors
 ///
@@ -166,7 +167,7 @@ impl Body {
         ensures stays { OnErr result (StillShows program.now self.old self.new) }
         ensures same { OnErr result (self.new ≡ record self.old { holding = self.new.holding }) }
     {
-        // The name of a first duty stands for a region.
+        // The name of a first duty has a region.
         let Some(key) = self.holding.key(name) else {
             unreachable!();
         };
@@ -185,7 +186,7 @@ impl Body {
         requires rests { self.old.side ≡ AtRest }
         ensures { spec.DoesLocal program.now self.old self.new }
     {
-        // Never taken: each name that is protected stands for a region.
+        // Never taken: each name that is protected has a region.
         let Some(key) = self.holding.key(name) else {
             return;
         };
@@ -268,7 +269,7 @@ impl Body {
         self.holding.reserve(name)
     }
 
-    /// Its first duty has created a region in this slot.
+    /// Its first duty has created a region in this slot. It cannot fail: `room_to_create` was called before the access.
     pub fn created(&mut self, program: &Program<'_>, name: u32, slot: u32)
         requires first { spec.OwesFirst self.old (machine.Create name) }
         requires room { HoldingHasRoom self.old.holding name }
@@ -286,15 +287,15 @@ impl Body {
     pub fn shared(&mut self, program: &Program<'_>, key: Key)
         requires first { (name : ℕ) × spec.OwesFirst self.old (machine.Share name) }
         requires shares { spec.SharesIn program.now self.old key }
-        ensures shows { (T : Setup) (g : ℕ) (c : Record) → Situation T g c → BodyShows T program.now self.old c
-            → BodyShows T program.now self.new (shared_record c) }
+        ensures shows { BecomesHere program.now self.old self.new (λ T c. shared_record c) }
         ensures done { spec.HasDoneDuty self.old self.new }
     {
         self.holding.add_pending(key);
         self.queue.pop();
     }
 
-    /// Its first duty has ended its stake in this region.
+    /// Its first duty has ended its stake in this region. From here on it knows no key of the region, so no instruction of it can reach
+    /// the region's words.
     pub fn left(&mut self, program: &Program<'_>, key: Key)
         requires possible { BodyIsPossible program.now self.old }
         requires first { (d : machine.Duty) × spec.OwesFirst self.old d }
@@ -312,7 +313,8 @@ impl Body {
         self.queue.pop();
     }
 
-    /// A region is gone, of which it has returned this many pages.
+    /// It has returned this many pages of a region, which is now gone. Counted after the slot was freed, when nothing of the region is
+    /// left.
     pub fn gave_back(&mut self, program: &Program<'_>, pages: u64)
         requires removed { self.old.counts.removed + 1 < 2 ^ 64 }
         requires returned { self.old.counts.returned + pages < 2 ^ 64 }
@@ -326,8 +328,8 @@ impl Body {
     pub fn claimed(&mut self, program: &Program<'_>, key: Key, page: u32)
         requires count { self.old.counts.taken + 1 < 2 ^ 64 }
         ensures shows { (region : Region_) → region_of_key self.old.holding key ≡ Some region
-            → (T : Setup) (c : Record) → BodyShows T program.now self.old c → next_is_spread T c ≡ false
-            → BodyShows T program.now self.new (has_claimed T c page (slot_or_global T.sizes.regions region)) }
+            → BecomesIf program.now self.old self.new (λ T c. next_is_spread T c ≡ false)
+            (λ T c. has_claimed T c page (slot_or_global T.sizes.regions region)) }
         ensures same { self.new ≡ record self.old { holding = self.new.holding; counts = self.new.counts } }
         ensures regions { SameRegions self.old.holding self.new.holding }
     {

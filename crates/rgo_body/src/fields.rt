@@ -1,4 +1,5 @@
-//! The fields of the structs of a program.
+//! The fields of the structs of a program. How many a struct has decides whether its objects fit a page, which is known only when a
+//! table is made; so the numbers are kept here, not the answers.
 
 ghost use Rattle.std.specs.Prelude.{◌≡◌, ℕ, Some, length, slice_get};
 ghost use Rattle.rgo_sound.specs.Typed.declared.programs.Struct.{Struct as Struct_};

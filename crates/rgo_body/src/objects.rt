@@ -33,7 +33,8 @@ impl Body {
         self.holding.key_of(next.function.class_of(variable))
     }
 
-    /// The page that it fills in a region.
+    /// The page that it fills in a region; `None` before its first object there. No other goroutine fills this page, so what is left of
+    /// it needs no access to find out.
     pub fn own_page(&self, key: Key) -> Option<Page>
         ensures { (T : Setup) (p : Program_) (c : Record) (region : Region) → BodyShows T p self.now c
             → region_of_key self.now.holding key ≡ Some region
@@ -43,7 +44,7 @@ impl Body {
         self.holding.page(key)
     }
 
-    /// The slot of a region; Global has the one after those of the others.
+    /// The slot of a region; Global has the one after those of the others, so that its pages are on a chain like all others.
     pub fn page_slot(&self, key: Key) -> u32
         ensures { (T : Setup) (p : Program_) (c : Record) (region : Region) → BodyShows T p self.now c
             → region_of_key self.now.holding key ≡ Some region → result ≡ slot_or_global T.sizes.regions region }

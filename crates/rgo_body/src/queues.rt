@@ -1,4 +1,5 @@
-//! What a goroutine owes, in the order in which it is done.
+//! What a goroutine owes, in the order in which it is done. New duties always come before the old ones, as in the definition: what is
+//! owed after an instruction is done before what was owed already.
 
 ghost use Rattle.std.specs.Prelude.{◌≡◌, ◌≤◌, ◌+◌, ◌++◌, ◌∷◌, [], List, MatchOption, OnOk, length, map};
 ghost use Rattle.rgo_sound.specs.RegionMachine.Owed.{regions_named};
@@ -43,7 +44,7 @@ fn duty_with(kind: Kind, name: u32) -> Duty
     }
 }
 
-/// Duties; the first one is the last of the list.
+/// Duties; the first one is the last of the list, so both a new first one and its end cost no move of the others.
 #[derive(Drop)]
 pub(crate) struct Queue {
     duties: Vec<Duty>,
@@ -97,7 +98,7 @@ impl Queue {
         self.duties.reserve(more)
     }
 
-    /// Reserves room for the sum of both.
+    /// Reserves room for the sum of both. A sum that no number can hold is more than any memory, so it is a refusal of memory.
     ///
     /// # Errors
     ///
@@ -112,7 +113,7 @@ impl Queue {
         }
     }
 
-    /// The duty comes before all others.
+    /// The duty comes before all others. There must be room, since most duties are put after an access.
     pub(crate) fn put(&mut self, duty: Duty)
         requires room { 1 ≤ self.old.room }
         ensures put { self.new.duties ≡ spec.duty_of duty ∷ self.old.duties }
@@ -134,7 +135,8 @@ impl Queue {
         }
     }
 
-    /// A stake for each region that is passed comes before all others.
+    /// A stake for each region that is passed comes before all others. A region that is passed twice gets two duties; the second one is
+    /// done at once, since a child needs one stake.
     pub(crate) fn put_shares(&mut self, passes: &[Class])
         requires room { length passes.now ≤ self.old.room }
         ensures put { self.new.duties ≡ map machine.Share (regions_named passes.now) ++ self.old.duties }

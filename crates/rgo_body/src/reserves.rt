@@ -40,7 +40,7 @@ impl Reserved {
         &self.pages
     }
 
-    /// Reserves room for exactly this many more.
+    /// Reserves room for exactly this many more, as it is known how many pages the object needs.
     ///
     /// # Errors
     ///
@@ -61,7 +61,8 @@ impl Reserved {
         self.pages.push_reserved(page);
     }
 
-    /// The pages are no longer reserved.
+    /// The pages are no longer reserved. The list gives up its memory: spread objects are rare, and a goroutine that waits
+    /// should take little.
     pub(crate) fn clear(&mut self)
         ensures { self.new ≡ spec.none_reserved }
     {

@@ -30,7 +30,8 @@ use rgo_stack::looping::Heap;
 
 impl Body {
     /// Makes instructions that need at most an access to a word, at most `at_most`. It stops earlier only if the goroutine has no
-    /// frame, or if the next instruction needs more, traps, or is a call for which the stack has no room.
+    /// frame, or if the next instruction needs more, traps, or is a call for which the stack has no room. `holding` is settled
+    /// afterwards, once for the whole run: names of frames that have returned meanwhile go.
     pub fn run(
         &mut self,
         program: &Program<'_>,
@@ -75,27 +76,49 @@ impl Body {
         requires { VariablesFit (length (newest_words (frames_of_body self.now))) (numbers_of from) }
         ensures { result ≡ computed action (words_from (frames_of_body self.now) (numbers_of from)) }
     {
-        match from {
-            Operands::Zero => match action {
-                Action::Int(k) => Some(k.cast_unsigned()),
-                Action::Bool(b) => Some(u64::from(b)),
-                Action::Nil => Some(0),
-                _ => None,
-            },
-            Operands::One(a) => {
-                let word = self.stack.word(a);
-                match action {
-                    Action::Copy => Some(word),
-                    Action::Neg => Some(negated(word)),
-                    Action::Not | Action::IsNil => Some(u64::from(word == 0)),
-                    _ => None,
-                }
-            }
-            Operands::Two(a, b) => match action {
-                Action::Binary(op) => binary(op, self.stack.word(a), self.stack.word(b)),
-                _ => None,
-            },
-            Operands::Three(_, _, _) => None,
+        match (action, from) {
+            (Action::Int(k), Operands::Zero) => Some(k.cast_unsigned()),
+            (Action::Bool(b), Operands::Zero) => Some(u64::from(b)),
+            (Action::Nil, Operands::Zero) => Some(0),
+            (Action::Copy, Operands::One(a)) => Some(self.stack.word(a)),
+            (Action::Neg, Operands::One(a)) => Some(negated(self.stack.word(a))),
+            (Action::Not | Action::IsNil, Operands::One(a)) => Some(u64::from(
+                self.stack.word(a) == 0,
+            )),
+            (Action::Binary(op), Operands::Two(a, b)) => binary(
+                op,
+                self.stack.word(a),
+                self.stack.word(b),
+            ),
+            // Another number of operands, which no checked code has.
+            (
+                Action::Int(_)
+                | Action::Bool(_)
+                | Action::Nil
+                | Action::Copy
+                | Action::Neg
+                | Action::Not
+                | Action::IsNil
+                | Action::Binary(_),
+                _,
+            ) => None,
+            // They touch the table, so they are accesses, which other workers see.
+            (
+                Action::Len
+                | Action::Load(_)
+                | Action::Store(_)
+                | Action::At
+                | Action::Put
+                | Action::New(_)
+                | Action::Slice
+                | Action::Chan
+                | Action::Recv
+                | Action::Send
+                | Action::Close
+                | Action::Get(_)
+                | Action::Set(_),
+                _,
+            ) => None,
         }
     }
 

@@ -1,10 +1,9 @@
 //! How a goroutine begins: `main`, or one that another goroutine starts. The body of a child is made from that of its parent before
-//! the start shows at the table.
+//! the start shows at the table: it needs memory, and a start that shows cannot be undone.
 
-ghost use Rattle.std.specs.Prelude.{◌≡◌, ◌∷◌, [], ℕ, IfOk, Option, Some, MatchOption, bytes_eq, codes};
-ghost use Rattle.rgo_core.specs.Core.{Situation, Setup};
+ghost use Rattle.std.specs.Prelude.{◌≡◌, ◌∷◌, [], IfOk, Option, Some, MatchOption, bytes_eq, codes};
+ghost use Rattle.rgo_core.specs.Core.{Setup};
 ghost use Rattle.rgo_core.specs.runs.Opening.{first_of, main_words};
-ghost use Rattle.rgo_core.specs.Records.{Record};
 ghost use Rattle.rgo_core.specs.Frames.shown.WordFrames.{word_called};
 ghost use Rattle.rgo_core_steps.specs.After.{child};
 ghost use Rattle.rgo_sound.specs.Code.Code.{CodeFn as FnRecord};
@@ -13,6 +12,7 @@ ghost use Rattle.rgo_sound.specs.Tac.Code as tac;
 ghost use Rattle.rgo_sound.specs.Tac.Ops.{operation_of};
 ghost use Rattle.rgo_body.specs.Bodies.{IsFresh, BodyIsReady};
 ghost use Rattle.rgo_body.specs.Shows.{BodyIsPossible, BodyShows};
+ghost use Rattle.rgo_body.specs.Steps.{BecomesHere};
 ghost use Rattle.rgo_body.specs.declared.bodies.Side.TheVariants.{AtRest};
 
 use crate::bodies::{Body, Side};
@@ -53,7 +53,7 @@ fn main_of(code: &Code) -> Option<usize>
 }
 
 impl Body {
-    /// A goroutine with one frame, which owes the removal of these names.
+    /// A goroutine with one frame, which owes the removal of these names: those that its function removes at its entry.
     fn with_frame(
         alloc: Global,
         stack: Stack,
@@ -97,7 +97,8 @@ impl Body {
         Body::with_frame(alloc, stack, holding, &[], 1)
     }
 
-    /// The body of the goroutine that the next instruction of this one starts.
+    /// The body of the goroutine that the next instruction of this one starts. The parent does not change here. Its stakes for the
+    /// child are pending until `started`, so none ends in between.
     ///
     /// # Errors
     ///
@@ -114,8 +115,7 @@ impl Body {
         requires ready { BodyIsReady program.now self.now next.now }
         requires starts { operation_of next.now.op ≡ tac.Go function from.now }
         requires rests { self.now.side ≡ AtRest }
-        ensures { IfOk result (λ b. (T : Setup) (g : ℕ) (c : Record) → Situation T g c → BodyShows T program.now self.now c
-            → BodyShows T program.now b (child T.code c)) }
+        ensures { IfOk result (λ b. BecomesHere program.now self.now b (λ T c. child T.code c)) }
     {
         let callee = function as usize;
         let arguments = self.stack.words(alloc, from)?;

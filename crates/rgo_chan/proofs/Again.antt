@@ -1,4 +1,5 @@
--- What a goroutine may do after each answer.
+-- What a goroutine may do after each result. Its frames are as they were and its lock is free, since the accesses of these results only
+-- load or miss; so the operation may be made again.
 use Rattle.std.proofs.Common.{◌≡◌, ℕ, List, [], ◌∷◌, ap, ◌∙◌, ⊎_elim}
 use Rattle.rgo_core.specs.Channels.Records.{Free, ChannelRec as SideRec, Shut, with_look, with_own_look, with_size}
 use Rattle.rgo_core.specs.Rule.Views.{Me}

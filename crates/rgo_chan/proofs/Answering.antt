@@ -1,4 +1,5 @@
--- The answers, from what the accesses have left.
+-- The results of sends and receives, from what the accesses have left. The loads and the exchange come first, then what is done under the
+-- lock; the two parts meet at the record after the exchange.
 use Rattle.std.proofs.Common.{◌≡◌, ◌≢◌, ℕ, suc, ◌+◌, ◌==◌, List, [], ◌∷◌, ◌++◌, Option, refl, ap, subst, ◌∙◌, inl, inr}
 use prog.Atomic.{either}
 use Rattle.rgo_sound.specs.Typed.declared.actions.Action.{Action}
@@ -68,7 +69,7 @@ module _ (T : Setup) (at : ℕ) (c : Record) (size n : ℕ) (m v : Me Record) (s
       pub frame_held : (mine T w).frame ≡ c.frame
       frame_held = ap (λ (d : Record). d.frame) is_locked
 
-      -- what is done under the lock makes so many accesses with those before it
+      -- the accesses under the lock, added to those before it
       pub all_committed : {to : Option ℕ} {action : Action} {others : List ℕ} → Operates T c to action others at → (value : ℕ)
           → committing T.code (accessing (suc (numbers T size)) (mine T w)) value ≡ committing T.code (accessing (4 + numbers T size) c) value
       all_committed here value =

@@ -1,4 +1,5 @@
--- A goroutine stays before its operation while only its clock and what it knows of channels change.
+-- A goroutine stays before its operation while only its clock and what it knows of channels change. Everything that an operation asks for
+-- is a matter of the frames, which no load and no exchange touches.
 use Rattle.std.proofs.Common.{◌≡◌, ◌≢◌, ◌-◌, ◌+◌, ℕ, suc, List, [], ◌∷◌, Option, refl, ap, sym, ◌∙◌, inl, inr, arith}
 use Rattle.rgo_sound.specs.Code.Code.{Code, CodeOp}
 use Rattle.rgo_core.specs.Channels.Records.{ChannelRec as SideRec}
@@ -81,7 +82,7 @@ module _ {T : Setup} {c : Record} {at : ℕ} where
   pub closes_there : ClosesAt T c at → IsAtChannel T c at
   closes_there a = inl (a.0, Close, [], a.1)
 
--- the variable that the operation gives a word stays the same
+-- the variable to which the operation writes a word stays the same
 pub type_as : (T : Setup) (c d : Record) → d.frame ≡ c.frame → given_type T d ≡ given_type T c
 type_as T c d same =
     ap (λ (f : FrameRec). option_map_or (λ (p : Position). target_type T p.w (given p.instr.op)) (position_in T.code f.frames) int) same

@@ -1,4 +1,5 @@
--- How a cell is reached: at once, or by the number of its page; and what is done with it then.
+-- How a cell is reached: at once, or by the number of its page; and what is done with it then. The two ways are kept apart until the
+-- word of the cell is known, and are one from there on.
 use Rattle.std.proofs.Common.{◌≡◌, ℕ, suc, ◌+◌, ◌-◌, ◌*◌, ◌/◌, ◌%◌, ◌<◌, ◌≤◌, Bool, true, false, if◌then◌else◌, List, [], ◌∷◌, ◌++◌, Option, refl, ap, sym, subst, ◌∙◌, inl, inr, arith}
 use Rattle.rgo_sound.specs.Memory.Memory.{Channel}
 use Rattle.rgo_sound.specs.RegionMachine.Objects.{data_pages}

@@ -1,4 +1,4 @@
--- Cells that hold nothing.
+-- Cells that hold nothing. The place after the newest value is free because fewer than a whole turn of cells lies between them.
 use Rattle.std.proofs.Common.{◌≡◌, ℕ, zero, suc, ◌+◌, ◌*◌, ◌/◌, ◌%◌, ◌<◌, ◌≤◌, ◌⊎◌, ap, ◌∙◌, inl, inr, ⊎_elim, arith}
 use Rattle.std.proofs.Math.Nat.{div-add-mod, mod-lt, mul-le-mul_left, mul-suc}
 use Rattle.rgo_core.specs.Channels.Controls.{count_of, head_of}

@@ -1,4 +1,4 @@
--- The answers of closes and acknowledgements, from what the accesses have left.
+-- The results of closes and acknowledgements, from what the accesses have left. Both load the control alone, so one module serves both.
 use Rattle.std.proofs.Common.{◌≡◌, ◌≢◌, ℕ, ◌+◌, ◌-◌, ◌==◌, [], ◌∷◌, ap, ◌∙◌, ⊎_elim}
 use prog.Atomic.{either}
 use Rattle.rgo_core.specs.Channels.Controls.{count_of}
@@ -97,7 +97,7 @@ module _ (T : Setup) (at : ℕ) (c : Record) (side : SideRec) (n : ℕ) (m v : M
             (acknowledged_counts (at_send_as (mine T w) frame_held here)) u e two)),
       )
 
--- the offer was taken, if it is not up any more
+-- The offer was taken if it is not up any more: while it is the own one, its phase is 1 or 2.
 pub is_taken : (T : Setup) (at : ℕ) (m v : Me Record) (n : ℕ) → HasAccessed T LoadControl at (λ x. x) (ShowsOwnControl (mine T m) at) m n v
     → count_of n ≢ 1 → IsTaken n
 is_taken T at m v n l other = ⊎_elim (λ e. absurd (other e)) (λ e. e) (left_record T m v l).phase

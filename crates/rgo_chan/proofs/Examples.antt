@@ -145,7 +145,7 @@ module _ (sizes : Sizes) (limits : Limits) where
   receive_not : IsBeforeReceive (sending sizes limits) before_a_send 6 → ⊥
   receive_not a = no_receive a.to 1 (a.from ∷ []) a.removes (the_instr a.here).1
 
--- ---- answers
+-- ---- results
 
 long : (a b c : Access) (es : List Access) → 7 ≡ 5 + length (a ∷ b ∷ c ∷ es) → ⊥
 long a b c es e = omega (arith, e)

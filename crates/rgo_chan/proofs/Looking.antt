@@ -1,4 +1,5 @@
--- The loads before an operation, and the exchange that locks the channel or misses.
+-- The loads before an operation, and the exchange that locks the channel or misses. What a load finds is kept in the record, so that the
+-- exchange can be compared with it.
 use Rattle.std.proofs.Common.{◌≡◌, ◌≢◌, ℕ, suc, ◌+◌, ◌==◌, ◌&&◌, Bool, true, false, if◌then◌else◌, [], ◌∷◌, refl, ap, sym, subst, ◌∙◌, arith}
 use Rattle.std.proofs.lemmas.Bool.Decides.{nat_tests}
 use prog.Atomic.{either}

@@ -1,4 +1,4 @@
--- What tests of a control say.
+-- What the tests of a control mean, for the definitions of `Ready`.
 use Rattle.std.proofs.Common.{◌≡◌, ◌≢◌, ◌⊎◌, ◌%◌, ℕ, Bool, true, false, refl, ap, sym, ◌∙◌, ⊎_elim, arith}
 use Rattle.rgo_core.specs.Channels.Controls.{bit, closed_of}
 use Rattle.rgo_chan.specs.Ready.{HasNoOffer, HasOffer, BufferHasRoom, HasValue, IsClosed, IsDrained, IsOpen, IsUnlocked}

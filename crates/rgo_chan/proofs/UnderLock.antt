@@ -1,4 +1,5 @@
--- What is done under the lock with a cell that is reached: it is loaded or stored, and the operation takes effect.
+-- What is done under the lock with a cell that is reached: it is loaded or stored, and the operation takes effect. Nobody else accesses
+-- the cell meanwhile, so what the commit finds is what the exchange left.
 use Rattle.std.proofs.Common.{◌≡◌, ℕ, suc, ◌+◌, ◌%◌, ◌<◌, [], ◌∷◌, ◌++◌, refl, ap, sym, subst, ◌∙◌}
 use Rattle.rgo_core.specs.Channels.Controls.{count_of, extent, head_of}
 use Rattle.rgo_core.specs.Channels.Locking.{IsCell, IsSpare}

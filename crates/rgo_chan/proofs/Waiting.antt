@@ -1,4 +1,5 @@
--- Why a goroutine is blocked, by what its operation found.
+-- Why a goroutine is blocked, by what its operation found. The words are given for one moment; the bound on the values of a buffer, an
+-- invariant of the table, turns "full" as the code tests it into "full" as the definition says it.
 use Rattle.std.proofs.Common.{◌≡◌, ◌≢◌, ℕ, ◌+◌, ◌%◌, ◌<◌, ◌≤◌, List, ◌∷◌, Option, Some, map, slice_get, slice_index, refl, ap, sym, subst, ◌∙◌, inl, inr, ⊎_elim, arith, Contains}
 use Rattle.rgo_sound.specs.Code.Code.{CodeOp, Do}
 use Rattle.rgo_sound.specs.Code.Erasure.{erased_fn, erased_op}

@@ -1,5 +1,8 @@
 -- What each operation on a channel returns, which accesses its goroutine has made for that, and what its record is then. `c` is the
 -- record before them; m and w are what the seat knew before and knows after; s and t are the numbers of counted accesses.
+--
+-- The accesses are listed in full, with what they found, because the law of deadlocks needs exactly that: which words a goroutine was
+-- blocked by, and that it changed none of them.
 use Rattle.std.specs.Prelude.{◌≡◌, ◌≢◌, ◌⊎◌, ◌+◌, ◌-◌, ◌/◌, ◌%◌, ◌<◌, ◌≤◌, ℕ, List, [], ◌∷◌, ◌++◌, if◌then◌else◌}
 use Rattle.rgo_core.specs.Channels.Controls.{closed_of, control, count_of, extent, head_of, spreads, tail_words}
 use Rattle.rgo_core.specs.Channels.Locking.{IsCell}
@@ -37,7 +40,7 @@ module _ (at : ℕ) where
   abbrev pub locks : (n g : ℕ) → Access
   locks n g = access g LockChannel at n (n + 1)
 
-  -- an exchange that finds another one, and changes nothing
+  -- an exchange that finds another one, and changes nothing; so the accesses of a `Busy` change no word, and a pass may ignore them
   abbrev pub misses : (k g : ℕ) → Access
   misses k g = access g LockChannel at k k
 
@@ -56,7 +59,8 @@ loads_cell word value g = access g LoadCell word value value
 abbrev pub stores_cell : (word old value g : ℕ) → Access
 stores_cell word old value g = access g StoreCell word old value
 
--- how many page numbers are loaded to reach a cell of a channel of this capacity: one if it is spread
+-- How many page numbers are loaded to reach a cell of a channel of this capacity: one if it is spread. It depends on the capacity alone, so
+-- the cost of an operation is known before it.
 abbrev pub numbers : Setup → (size : ℕ) → ℕ
 numbers T size = if spreads T.sizes.page_words size then 1 else 0
 
@@ -180,6 +184,7 @@ module _ (T : Setup) (at : ℕ) (c : Record) where
 -- follow the capacity are words of the table: the cells, or if the channel is spread, the numbers of their pages.
 pub record Looked (T : Setup) (at : ℕ) (c : Record) (size n : ℕ) (m : Me Record) (s : ℕ) (w : Me Record) (t : ℕ) : Type 0 where
   pub did : Did T m s (looks at size n) (waited 2 c (looked at c.side size n)) w t
+  -- so that the commit of a value does not overflow the control
   pub fits : n + 4 < 18446744073709551616
   pub head : head_of n < extent size
   pub small : size < 1073741820
@@ -196,6 +201,7 @@ pub record IsReached (T : Setup) (at size cell word : ℕ) (c : Record) (m : Me 
   pub side : SideRec
   pub is : word ≡ cell_word T at size cell k
   pub inside : word < all_words (layout T)
+  -- a page number is loaded under the lock, which it must not lose
   pub hold : side.hold ≡ c.side.hold
   pub sized : side.size ≡ c.side.size
   pub there : IsCell T.sizes.page_words side at size cell word

@@ -54,7 +54,8 @@ ClosesAt T c at = (to : Option ℕ) × Operates T c to Close [] at
 abbrev pub control_of_channel : (base channel : ℕ) → ℕ
 control_of_channel base channel = base + (channel - 1)
 
--- if it is not nil, its control, its capacity and the word after them are words of the table
+-- If it is not nil, its control, its capacity and the word after them are words of the table. The callers know this of every pointer in a
+-- frame; without it the first load could be outside the table.
 abbrev pub LiesIn : Setup → (base channel : ℕ) → Type 0
 LiesIn T base channel = channel ≢ 0 → control_of_channel base channel + 3 ≤ all_words (layout T)
 

@@ -1,4 +1,5 @@
--- Whether an operation on a channel can take effect, by its capacity and its control.
+-- Whether an operation on a channel can take effect, by its capacity and its control. No other word is asked for, since one load of the
+-- control then decides, and the exchange that locks it confirms the decision.
 use Rattle.std.specs.Prelude.{◌≡◌, ◌≢◌, ◌⊎◌, ◌%◌, ◌<◌, ◌≤◌, ℕ}
 use Rattle.rgo_core.specs.Channels.Controls.{closed_of, count_of}
 
@@ -38,7 +39,7 @@ HasOffer size n = IsOpen n × (size ≡ 0) × (count_of n ≡ 1)
 abbrev pub IsDrained : (size control : ℕ) → Type 0
 IsDrained size n = IsClosed n × ((size ≡ 0) ⊎ (count_of n ≡ 0))
 
--- the buffer is empty, or there is no offer that could be taken
+-- the buffer is empty, or there is no offer that could be taken: an offer that another receiver has taken does not count
 abbrev pub IsEmpty : (size control : ℕ) → Type 0
 IsEmpty size n = IsOpen n × (((0 < size) × (count_of n ≡ 0)) ⊎ ((size ≡ 0) × (count_of n ≢ 1)))
 

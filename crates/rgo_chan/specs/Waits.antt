@@ -1,5 +1,6 @@
 -- What follows from the results: why a goroutine is blocked, at a moment at which the words are what it found; and what it may do
--- next.
+-- next. The laws about what comes next let a caller try again with no other premise than the result: their records are the premises
+-- of the operations.
 use Rattle.std.specs.Prelude.{◌≡◌, ◌+◌, ◌%◌, ℕ, slice_index}
 use Rattle.rgo_core.specs.Channels.Deadlock.{Blocked}
 use Rattle.rgo_core.specs.Channels.Records.{Free, Offering, Shut, Stranded}
@@ -27,7 +28,7 @@ abbrev pub ReceiveWaits : Type 0
 ReceiveWaits = (T : Setup) (g : ℕ) (c : Record) (x : Situation T g c) (at size n : ℕ) → ReceivesAt T c at
     → slice_index x.words (at + 1) ≡ size → slice_index x.words at ≡ n → IsEmpty size n → Blocked (moment x) g c.side
 
--- the channel is nil
+-- the channel is nil, so it is blocked at every moment
 abbrev pub NilSendWaits : Type 0
 NilSendWaits = (T : Setup) (g : ℕ) (c : Record) (x : Situation T g c) (value : ℕ) → IsBeforeSend T c 0 value → Blocked (moment x) g c.side
 

@@ -54,7 +54,7 @@ pub fn is_empty(size: u64, control: u64) -> bool
     if size == 0 { values != 1 } else { values == 0 }
 }
 
-/// Whether a buffer has a value.
+/// Whether a buffer has a value. A closed channel may have some: they are received before its zeros.
 pub fn has_value(size: u64, control: u64) -> bool
     ensures yes { result ≡ true → HasValue size control }
     ensures no { result ≡ false → HasValue size control → ⊥ }

@@ -1,10 +1,11 @@
-//! What follows from the results of operations on channels.
+//! What follows from the results of operations on channels. The laws of blocked goroutines speak of one moment of the table: a result
+//! alone says what was found, and the words may have changed since.
 ghost use Rattle.rgo_chan.specs.CellExamples.{CellExamples};
 ghost use Rattle.rgo_chan.specs.Examples.{AnswerExamples, ReadyExamples};
 ghost use Rattle.rgo_sound.specs.Machine.declared.limits.Limits.{Limits};
 ghost use Rattle.rgo_chan.specs.Waits.{AcknowledgeThen, CloseThen, LockWaits, NilReceiveWaits, NilSendWaits, OfferWaits, ReceiveThen, ReceiveWaits, SendThen, SendWaits};
 
-/// A goroutine is blocked at a send while the words are what it found.
+/// A goroutine is blocked at a send while the words are what it found. The driver applies this at a moment at which no word changes.
 pub fn send_waits()
     ensures not_ready { SendWaits }
     ensures nil { NilSendWaits }

@@ -1,4 +1,4 @@
-//! The first two accesses of a send and of a receive: the capacity, then the control. In this order the answer is about the last
+//! The first two accesses of a send and of a receive: the capacity, then the control. In this order the result is about the last
 //! word that was loaded, the control; the capacity never changes.
 ghost use Rattle.std.specs.Prelude.{◌≡◌, ◌≤◌, ◌+◌};
 ghost use Rattle.rgo_chan.specs.Answers.{Looked};
@@ -14,7 +14,7 @@ use rgo_core_steps::channels::{capacity, control};
 use rgo_core_steps::counting::Steps;
 use std::sync::ledger::Ledger;
 
-/// A capacity and a control.
+/// A capacity and a control. Both were so when the control was loaded, since a capacity never changes.
 #[derive(Clone, Copy)]
 pub(crate) struct Seen {
     pub(crate) size: u64,

@@ -26,7 +26,8 @@ pub(crate) struct Pages {
     pub(crate) words: usize,
 }
 
-/// The word of a cell. If the channel is spread, loads the number of the cell's page, plus 1. Called under the lock.
+/// The word of a cell. If the channel is spread, loads the number of the cell's page, plus 1; it is not 0, since it was stored before
+/// the channel existed. Called under the lock.
 pub(crate) fn reach<L: Ledger>(
     table: &RunTable,
     seat: &mut RunSeat,

@@ -103,7 +103,8 @@ fn take_offer<L: Ledger>(
     value
 }
 
-/// A receive from the channel whose control is word `at`.
+/// A receive from the channel whose control is word `at`. That the channel is closed is tested after whether it has a value: what was
+/// sent before the close is received first.
 fn receive_at<L: Ledger>(
     table: &RunTable,
     seat: &mut RunSeat,

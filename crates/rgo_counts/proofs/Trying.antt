@@ -1,4 +1,5 @@
--- Exchanges of counts, by what each found.
+-- Exchanges of counts, by what each found. A miss changes nothing of the record but its list of tried slots, so the premises of one
+-- exchange hold of the next one, too.
 use prog.Atomic.{either}
 use Rattle.std.proofs.Common.{◌≡◌, ◌≢◌, ◌<◌, ◌+◌, ℕ, suc, ◌==◌, false, List, [], ◌∷◌, Option, Some, None, add-one, arith, refl, ap, sym, ◌∙◌}
 use Rattle.rgo_sound.specs.RegionMachine.States.{Duty}

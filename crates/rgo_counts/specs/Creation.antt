@@ -1,4 +1,5 @@
--- What a search for a free slot leaves.
+-- What a search for a free slot leaves. A search in vain must leave a trace for each slot: with these the driver shows that no slot was
+-- free, before it ends a run for the lack of one.
 use Rattle.std.specs.Prelude.{◌≡◌, ◌≢◌, ◌<◌, ◌≤◌, ◌-◌, ℕ, List, Option, Some, None}
 use Rattle.rgo_core.specs.Rule.Histories.{accesses_by}
 use Rattle.rgo_core.specs.Rule.Passes.{ChangesNothingBy}
@@ -31,7 +32,7 @@ abbrev pub SlotOrNone : Setup → TableSizes → (c : Record) → Option ℕ →
 SlotOrNone T z c None m w = AllSlotsTried T z c m w
 SlotOrNone T z c (Some s) m w = SlotTaken T z c s m w
 
--- it has exchanged the counts from `first` to `end`, until it found one 0
+-- it has exchanged the counts from `first` to `end`, until it found one 0; stated for a part of the slots, since the search goes around
 abbrev pub SlotsTried : Setup → TableSizes → (first end : ℕ) → (c : Record) → Option ℕ → (m w : Me Record) → Type 0
 SlotsTried T z first end c None m w =
     Tried accesses (first_of T.code) CreateRegion (count_at z) tried_slot c (upward first (end - first)) m w

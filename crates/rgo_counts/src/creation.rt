@@ -91,12 +91,13 @@ pub fn create_from<L: Ledger>(
     }
 }
 
-/// What a search in vain shows: each slot was found in use at an exchange of the call.
+/// What a search in vain shows: each slot was found in use at an exchange of the call. The driver compares this with the accesses of
+/// others to show that a run lacks regions.
 pub fn full_law()
     ensures { FullSlotsLaw }
 {}
 
-/// Creates a region, where the looks begin at this slot.
+/// Creates a region. The looks begin at this slot, which exists.
 fn create_at<L: Ledger>(
     table: &RunTable,
     seat: &mut RunSeat,
@@ -180,7 +181,7 @@ fn beginning(table: &RunTable, sizes: &TableSizes, from: usize) -> usize
     }
 }
 
-/// The first slot from `first` to `end` that looks free.
+/// The first slot from `first` to `end` that looks free. It may be taken before the exchange; then the exchange finds that out.
 fn look(table: &RunTable, sizes: &TableSizes, first: usize, end: usize) -> Option<usize>
     requires layout { HasLayout (setup_of table.now.shared.key) sizes.now table.now.shared.table_id }
     requires ends { (first ≤ end) × (end ≤ sizes.now.slots) }
@@ -194,7 +195,8 @@ fn look(table: &RunTable, sizes: &TableSizes, first: usize, end: usize) -> Optio
     None
 }
 
-/// Exchanges the counts of the slots from `first` to `end` in turn, until one is found 0.
+/// Exchanges the counts of the slots from `first` to `end` in turn, until one is found 0. Slots in use are exchanged, too: only an
+/// exchange proves that a slot was in use.
 fn try_slots<L: Ledger>(
     table: &RunTable,
     seat: &mut RunSeat,

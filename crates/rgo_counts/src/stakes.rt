@@ -2,8 +2,8 @@
 //!
 //! 1. A goroutine that has a stake adds 1 for one that it is about to start (`share`). So the count is at least 3 from before the
 //!    start on, until one of the two leaves.
-//! 2. Whoever ends a stake subtracts 1 (`leave`). Who finds more than 2 is not the last: another goroutine has a stake still, and
-//!    will find what is left. Who finds 2 is the last; no goroutine has a stake from then on, and so none accesses the count.
+//! 2. A goroutine that ends its stake subtracts 1 (`leave`). If it finds more than 2, it is not the last: another one still has a
+//!    stake and will find what is left. If it finds 2, it is the last. From then on nobody has a stake, so nobody accesses the count.
 //! 3. The last one returns the pages, and stores 0 (`free_slot`). Then another goroutine's `create` may find the slot free.
 //!
 //! Each function is called by the goroutine whose record is on the seat, in its own turn. None can fail: an addition or subtraction
@@ -28,7 +28,7 @@ use rgo_core_steps::counting::Steps;
 use rgo_core_steps::counts;
 use std::sync::ledger::Ledger;
 
-/// Who has a stake in a region after a goroutine has left it.
+/// Whether another goroutine has a stake in a region after one has left it.
 #[derive(Clone, Copy, Debug, PartialEq, Eq)]
 pub enum Left {
     /// At least one goroutine had one at the moment of the subtraction.

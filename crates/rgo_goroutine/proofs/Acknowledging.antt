@@ -1,4 +1,4 @@
--- A goroutine whose offer is at a channel asks whether it was taken.
+-- A goroutine whose offer is at a channel asks whether it was taken. The offer keeps it at its send, so the send is its next instruction.
 use Rattle.std.proofs.Common.{◌≡◌, ◌<◌, ℕ, true, false, Option, Some, None, Result, Ok, Err, OnOk, is_err, refl, ap, sym, subst, ◌∙◌, arith}
 use Rattle.std.proofs.lemmas.Option.{none-some}
 use Rattle.rgo_sound.specs.Code.Code.{Code}

@@ -1,4 +1,5 @@
--- A step of a turn: acts that change no channel, one after another, and what it comes to after them.
+-- A step of a turn: acts that change no channel, one after another, and what it comes to after them. Each part may end the turn, so the
+-- cases are those of the first part that does.
 use Rattle.std.proofs.Common.{◌≡◌, ◌∙◌, ◌<◌, ◌≤◌, Bool, Option, Some, None, ap, arith, sym}
 use Rattle.rgo_acts.specs.Runs.{Run}
 use Rattle.rgo_goroutine.specs.Acting.{GoroutineActs}

@@ -1,4 +1,4 @@
--- Duties attended to, one after another.
+-- Duties attended to, one after another. The number of duties in the queue falls, so the loop ends.
 use Rattle.std.proofs.Common.{◌≡◌, ◌<◌, ℕ, true, false, List, [], ◌∷◌, Option, Some, None, MatchOption, is_some, length, refl, ap, sym, subst, ◌∙◌, arith}
 use Rattle.rgo_sound.specs.RegionMachine.States.{Duty}
 use Rattle.rgo_acts.specs.Body.Queues.{duty_of}

@@ -1,4 +1,5 @@
--- Starts of goroutines, and the return of `main`, as acts of a turn.
+-- Starts of goroutines, and the return of `main`, as acts of a turn. A child joins the end of the goroutine's list, and the front of the
+-- record's.
 use Rattle.std.proofs.Common.{◌≡◌, ◌<◌, ◌∙◌, ℕ, List, [], Option, Some, None, ap, arith, length, map, refl, subst, sym}
 use Rattle.std.proofs.lemmas.List.{append-nil}
 use Rattle.rgo_sound.specs.Code.Code as code

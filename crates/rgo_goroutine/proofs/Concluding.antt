@@ -1,4 +1,4 @@
--- What follows an act of the goroutine's actor: the turn has less to do, or is over.
+-- What follows an act of the goroutine's actor: the turn has less to do, or is over. `Counts` is all that the forms of acts differ in.
 use Rattle.std.proofs.Common.{◌≡◌, ◌+◌, ◌-◌, ◌<◌, ◌≤◌, ℕ, true, [], Option, Some, None, Ok, Err, Result, MatchResult, refl, ap, sym, subst, ◌∙◌, arith}
 use Rattle.std.proofs.lemmas.List.{append-nil}
 use Rattle.rgo_sound.specs.Memory.declared.traps.Trap.{Trap}
@@ -19,7 +19,7 @@ use Rattle.rgo_goroutine.specs.declared.turning.TableTurnEnd.TheVariants as stop
 use Rattle.rgo_goroutine.specs.declared.turning.Turning.{Turning}
 use Rattle.rgo_goroutine.proofs.Lifting.{ends_after, ends_by, goes_as, goes_on, moved_as, stops}
 
--- the turn has n instructions less, and has noted so many channels more
+-- the turn has n instructions less, and `noted` channels more in its list
 pub record Counts (t u : Turning) (n noted : ℕ) : Type 0 where
   pub left : t.left ≡ u.left + n
   pub changed : u.changed.count ≡ t.changed.count + noted
@@ -42,7 +42,7 @@ counted_print t u some e = record {
 pub uncounted : (t : Turning) → t.moved ≡ true → Counts t t 0 0
 uncounted t moved = record { left = omega arith; changed = omega arith; moved = moved }
 
--- the turn is told that something may have moved
+-- the turn remembers that something may have moved
 pub only_told : (t u : Turning) → u ≡ record t { moved = true } → Counts t u 0 0
 only_told t u e = record {
   left = let l = ap (λ (x : Turning). x.left) e in omega (arith, l);

@@ -1,4 +1,5 @@
--- Before an instruction the goroutine comes near, and what it does can be counted; then it makes the instruction.
+-- Before an instruction the goroutine comes near, and what it does can be counted; then it makes the instruction. One lemma joins the two
+-- for all kinds of instructions.
 use Rattle.std.proofs.Common.{◌≡◌, ◌-◌, ◌<◌, true, [], Option, Some, None, Ok, Err, Result, MatchResult, refl, ap, sym, subst, ◌∙◌, arith}
 use Rattle.std.specs.Result.{IsErr, IsOk}
 use Rattle.rgo_acts.specs.Body.Bodies.{HasRoomBehind, BodyIsReady}

@@ -1,4 +1,4 @@
--- Goroutines and turns that are as their definitions say, and such as are not.
+-- Goroutines and turns that meet their definitions, and some that do not.
 use Rattle.std.proofs.Common.{◌≡◌, ◌<◌, inl, inr, ◌++◌, ◌∙◌, ℕ, zero, suc, true, false, List, [], ◌∷◌, Option, Some, arith, ap, length, not, refl, subst, sym}
 use mathlib.Core.Option.{some, some-injective, some-ne-none}
 use lib.ListN.{get_elem?}

@@ -1,4 +1,4 @@
--- Simple instructions, and what is owed before the next one.
+-- Simple instructions, and what is owed before the next one: acts without an access, whose local steps wait for the next access.
 use Rattle.std.proofs.Common.{◌≡◌, ◌+◌, ◌-◌, ◌<◌, ◌≤◌, ℕ, true, [], Some, None, refl, ap, ◌∙◌, arith}
 use Rattle.rgo_acts.specs.Body.Bodies.{frames_of_body}
 use Rattle.rgo_acts.specs.Body.Nexts.{FrameHasNoNext}
@@ -18,7 +18,7 @@ use Rattle.rgo_goroutine.proofs.Joining.{acts_then, near_acts}
 use Rattle.rgo_goroutine.proofs.Lifting.{goes_on, stops}
 use Rattle.rgo_goroutine.proofs.Resting.{acts_moved, goes_moved, is_over, put_on, put_same, put_stops}
 
--- ---- the turn is told first that something may move
+-- ---- the turn first remembers that something may move
 
 module _ (r : Run) (old : Goroutine) (t v : Turning) (e : v ≡ record t { moved = true }) (goes : MayMakeInstructions r old t.left)
     (noted : t.changed.count < 8) where

@@ -1,4 +1,5 @@
--- What passes between a goroutine and its driver.
+-- What passes between a goroutine and its driver. Lists are reversed and read from their ends, so the invariants of the loops speak of the
+-- reversed rest.
 use Rattle.std.proofs.Common.{◌≡◌, ◌≤◌, ◌<◌, ◌∙◌, ◌++◌, ◌^◌, ℕ, suc, Bool, true, false, List, [], ◌∷◌, None, ap, arith, if◌then◌else◌, length, map, refl, reverse, subst, sym}
 use Rattle.std.proofs.lemmas.List.{append-nil, reverse-append}
 use Rattle.std.proofs.lemmas.List.Elements.{All-cons, All-nil}

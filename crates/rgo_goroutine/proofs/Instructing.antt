@@ -1,4 +1,4 @@
--- What an instruction asks of the goroutine, and where its actor has come by it.
+-- What an instruction asks of the goroutine, and where its actor has come by it. Both follow from the stage `GoroutineIsAt`, whatever the kind.
 use Rattle.std.proofs.Common.{◌+◌, ◌<◌, ℕ, [], Result, MatchResult, refl, ap, arith}
 use Rattle.rgo_sound.specs.Memory.declared.traps.Trap.{Trap}
 use Rattle.rgo_acts.specs.Body.declared.nexts.Next.{Next}

@@ -1,4 +1,5 @@
--- Acts of a turn, one after another.
+-- Acts of a turn, one after another. What the first act found is found among the accesses of both, so the reason of the last act is the
+-- reason of the whole.
 use Rattle.std.proofs.Common.{◌≡◌, ◌+◌, ◌≤◌, ℕ, List, [], ◌∷◌, ◌++◌, Option, Some, None, inl, inr, refl, ap, sym, subst, ◌∙◌, append_assoc, arith}
 use Rattle.std.proofs.lemmas.List.{append-nil}
 use Rattle.rgo_core.specs.Rule.Views.{number_of}
@@ -25,7 +26,7 @@ use Rattle.rgo_goroutine.specs.declared.turning.TableTurnEnd.{TableTurnEnd}
 use Rattle.rgo_goroutine.specs.declared.turning.TableTurnEnd.TheVariants as stop
 use Rattle.rgo_goroutine.specs.declared.turning.Turning.{Turning}
 
--- ---- what was found is found among more accesses
+-- ---- what was found is found among more accesses, so a reason may be stated by those of a whole turn
 
 module _ (T : Setup) (g : ℕ) (c : Record) (xs es : List Access) where
   more : (kind : Kind) (i n : ℕ) → Found g es kind i n → Found g (xs ++ es) kind i n

@@ -45,7 +45,7 @@ same_halts r old new t u goes noted same acted counts = record {
   progress = λ e. absurd (no_answer stop.NoMemory e);
 }
 
--- one print more, after which the turn is over if it has printed much
+-- One print more, after which the turn is over if it has printed much: the one reason of `Went` that an act can have, but for a late end.
 much_concludes : (r : Run) (old new : Goroutine) (es : List Access) (answer : Option TableTurnEnd) → SameFirst r old new
     → MatchOption answer ⊤ (λ why. (why ≡ stop.Went) × HoldsMuch new) → ActConcludes r old new es answer
 much_concludes r old new es None same much = same

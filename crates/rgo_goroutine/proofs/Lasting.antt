@@ -1,4 +1,5 @@
--- What a turn has found lasts while its goroutine only loads the clock.
+-- What a turn has found lasts while its goroutine only loads the clock: the load adds an access to the record, and changes no word and no
+-- frame. So the last access of a turn does not spoil its reason.
 use Rattle.std.proofs.Common.{◌≡◌, ◌∙◌, ◌≤◌, ℕ, List, ◌++◌, Option, ap, inl, inr, refl, subst, sym}
 use Rattle.rgo_core.specs.Memory.Words.{clock_at}
 use Rattle.rgo_core.specs.Rule.Views.{number_of}

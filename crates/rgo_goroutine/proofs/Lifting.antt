@@ -1,4 +1,4 @@
--- What acts of the goroutine's actor are to the turn.
+-- What acts of the goroutine's actor are to the turn: the lists for the driver are untouched, so they follow from the actor's acts.
 use Rattle.std.proofs.Common.{◌≡◌, ◌+◌, ◌≤◌, ℕ, Bool, true, false, if◌then◌else◌, List, [], ◌++◌, Some, None, inr, length, refl, ap, sym, subst, ◌∙◌, length-append, arith}
 use Rattle.std.specs.Option.{option_map}
 use Rattle.std.proofs.lemmas.List.{append-nil}

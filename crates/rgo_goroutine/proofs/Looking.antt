@@ -97,7 +97,7 @@ module _ (r : Run) (old : Goroutine) (b : Actor) (own : b.seat.table_id ≡ old.
         some = let e = ap accesses now_looked in omega (arith, e);
       }
 
--- bridged from the table that is loaded
+-- for the setup of the table that is loaded, which is equal to the run's but not the same expression
 pub caught_up_at : (r : Run) (T : Setup) (is : T ≡ r.setup) (old : Goroutine) (b : Actor) → b.seat.table_id ≡ old.actor.seat.table_id
     → b.behind ≡ 0 → b.body ≡ old.actor.body → HasPossible T b.seat.me
     → ((n : ℕ) × HasAccessed T kind.Load clock_at (λ n. n) (λ n d. d ≡ looked (settled T old.actor.behind old.actor.seat.me)) old.actor.seat.me n

@@ -1,4 +1,5 @@
--- A goroutine comes to its next instruction: its body alone changes, and nothing has moved by that.
+-- A goroutine comes to its next instruction: its body alone changes, and nothing has moved by that. A pass relies on this: whoever comes
+-- to its instruction and then finds a page in use has not moved.
 use Rattle.std.proofs.Common.{◌≡◌, ◌<◌, ◌∙◌, ℕ, Bool, true, false, [], Option, Some, None, Ok, Err, Result, ap, arith, refl, sym}
 use Rattle.std.specs.Result.{OnOk, is_ok}
 use Rattle.rgo_acts.specs.Body.Bodies.{HasRoomBehind, frames_of_body}

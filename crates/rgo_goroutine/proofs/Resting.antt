@@ -1,4 +1,4 @@
--- What is an act of the turn though it has made no access: nothing has changed, or the body alone.
+-- What counts as an act of the turn although it has made no access: nothing has changed, or the body alone.
 use Rattle.std.proofs.Common.{◌≡◌, ◌<◌, ◌≤◌, Bool, true, false, if◌then◌else◌, List, [], ◌∷◌, ◌++◌, Option, Some, None, length, slice_get, refl, ap, sym, subst, ◌∙◌, arith}
 use Rattle.std.proofs.lemmas.List.{append-nil}
 use Rattle.std.proofs.lemmas.Option.{none-some}
@@ -118,7 +118,7 @@ module _ (r : Run) (old : Goroutine) (b : Actor) (t : Turning) (goes : MayMakeIn
     progress = λ e. absurd (no_answer stop.NoMemory e);
   }
 
--- ---- the turn has been told first that something may have moved
+-- ---- the turn has first remembered that something may have moved
 
 pub acts_moved : (r : Run) (old new : Goroutine) (t v u : Turning) (answer : Option TableTurnEnd) → v ≡ record t { moved = true }
     → GoroutineActs r old new v u answer → GoroutineActs r old new t u answer

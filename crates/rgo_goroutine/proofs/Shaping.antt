@@ -26,7 +26,7 @@ use Rattle.rgo_acts.proofs.before.Instructions.{do_of}
 use Rattle.rgo_acts.proofs.before.Resting.{talks_as}
 use Rattle.rgo_goroutine.specs.Instructions.{IsElsewhere}
 
--- an action of the code has as many operands as it takes, and a variable for its value exactly if it gives one
+-- an action of the code has as many operands as it takes, and a variable for its value exactly if it has one
 pub shaped : (r : Run) (a : Actor) (next : Next) → IsActorOf r a → IsNextOf r.program.code (frames_of_body a.body) next
     → (to : Option ℕ) (act : Action) (from : List ℕ) → operation_of next.op ≡ tac.Do to act from → IsShaped to act from
 shaped r a next s n to act from is =
@@ -53,7 +53,7 @@ strict binary.Mul other = refl
 strict binary.Div other = refl
 strict binary.Rem other = refl
 
--- ---- an instruction that is no operation on a channel
+-- ---- an instruction other than an operation on a channel
 
 not_both : (op : Op) → IsElsewhere op → IsTalk op → ⊥
 not_both op elsewhere talk = subst IsElsewhere talk.4 elsewhere talk.3

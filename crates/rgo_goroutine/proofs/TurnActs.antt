@@ -1,4 +1,5 @@
--- A turn: acts one after another, and a load of the clock at its end.
+-- A turn: acts one after another, and a load of the clock at its end. The load makes the record whole; that the reason outlasts it is by
+-- `Lasting`.
 use Rattle.std.proofs.Common.{◌≡◌, ◌⊎◌, inl, inr, ◌+◌, ◌<◌, ◌≤◌, ℕ, false, List, [], ◌++◌, Some, None, length, refl, ap, sym, subst, ◌∙◌, append_assoc, arith}
 use Rattle.std.proofs.lemmas.List.{append-nil}
 use Rattle.rgo_core.specs.Channels.Records.{Free, ChannelRec as SideRec}
@@ -198,7 +199,7 @@ module _ (r : Run) (old mid new : Goroutine) (t u : Turning) (why : TableTurnEnd
   stops_are slice n all = stops_last r old mid new u slice n p.acted.es up.es old_is (sym new_is ∙ up.is) all
       (ap (λ (go : Goroutine). go.prints.items) up.rest) why p.over
 
--- what it tells of itself
+-- what it reports of itself
 pub has_turned : (r : Run) (old mid new : Goroutine) (t u : Turning) (turned : Turned) (of : IsOf r old)
     (p : Proceeds r old mid t u turned.stop) (up : HasCaughtUp r mid new u.left) → turned.steps + u.left ≡ t.left
     → turned.moved ≡ u.moved → turned.changed ≡ u.changed → HasTurned r old new t.left turned

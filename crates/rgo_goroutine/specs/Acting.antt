@@ -1,4 +1,4 @@
--- A goroutine during a turn, and what each of its acts leaves.
+-- A goroutine during a turn, and what each of its acts leaves. All acts have the same form, so a turn is proved once, over acts.
 use Rattle.std.specs.Option.{option_map}
 use Rattle.std.specs.Prelude.{◌≡◌, ◌⊎◌, ◌+◌, ◌-◌, ◌<◌, ◌≤◌, ℕ, Bool, false, List, ◌++◌, Option, Some, None, if◌then◌else◌, length}
 use Rattle.rgo_core.specs.Rule.Passes.{ChangesNothingBy}
@@ -28,6 +28,7 @@ record_now r go = now r.setup go.actor
 pub record MayMakeInstructions (r : Run) (go : Goroutine) (left : ℕ) : Type 0 where
   pub stands : IsActorOf r go.actor
   pub number : go.number ≡ number_of go.actor.seat.me
+  -- each print was an instruction, so `room` bounds the tickets, too
   pub few : length (record_now r go).clock.prints ≤ steps_of (record_now r go)
   pub room : steps_of (record_now r go) + left < 8796093022208
   pub all : AreChildren r go.children.items
@@ -56,8 +57,10 @@ pub record GoroutineActed (r : Run) (old new : Goroutine) (t u : Turning) : Type
   pub n : ℕ
   pub es : List Access
   pub moved : GoroutineMoved r old new n es
+  -- no instruction is made that the turn does not count
   pub left : t.left ≡ u.left + n
   pub noted : t.changed.count ≤ u.changed.count
+  -- the driver looks for deadlocks and shortages only among goroutines that have not moved
   pub still : u.moved ≡ false → (t.moved ≡ false) × (n ≡ 0) × GoroutineRests r old new es
 
 abbrev pub SameFirst : Run → (old new : Goroutine) → Type 0
@@ -65,7 +68,8 @@ SameFirst r old new = (record_now r new).clock.first ≡ (record_now r old).cloc
 
 -- ---- what an act came to
 
--- how much the turn may still do: instructions, and entries in its list of changed channels
+-- How much the turn may still do: instructions, and entries in its list of changed channels. Each act that continues lowers it, so the loop
+-- of a turn ends.
 abbrev pub room_in_turn : Turning → ℕ
 room_in_turn t = t.left + (8 - t.changed.count)
 

@@ -1,4 +1,4 @@
--- Goroutines as their driver knows them.
+-- Goroutines as their driver knows them: between turns, when their records have all their local steps.
 use Rattle.std.specs.Option.{option_map}
 use Rattle.std.specs.Prelude.{◌≡◌, ◌+◌, ◌≤◌, ℕ, Bool, List, [], ◌∷◌, ◌++◌, filter, length, map, not}
 use Rattle.rgo_core.specs.Channels.Records.{Free}
@@ -50,7 +50,8 @@ abbrev pub all_seen : List Child → List (List Access)
 all_seen [] = []
 all_seen (child ∷ later) = child.actor.seat.me.0.seen ∷ all_seen later
 
--- no channel is locked, no object half made, no page claimed and not linked, and no chain being returned
+-- No channel is locked, no object half made, no page claimed and not linked, and no chain being returned. The laws of deadlocks and
+-- shortages ask for this: whoever is in the middle of such an act can continue.
 pub record IsTidy (c : Record) : Type 0 where
   pub hold : c.side.hold ≡ Free
   pub make : c.memory.make ≡ Rest
@@ -62,6 +63,7 @@ pub record IsChild (r : Run) (child : Child) : Type 0 where
   pub stands : IsActorOf r child.actor
   pub settled : child.actor.behind ≡ 0
   pub number : child.number ≡ number_of child.actor.seat.me
+  -- nothing has to be taken from it, so a driver may give it up at once
   pub blank : (now r.setup child.actor).clock ≡ blank
   pub tidy : IsTidy (now r.setup child.actor)
 
@@ -74,6 +76,7 @@ AreChildren r (child ∷ later) = IsChild r child × AreChildren r later
 pub record IsOf (r : Run) (go : Goroutine) : Type 0 where
   pub stands : IsActorOf r go.actor
   pub number : go.number ≡ number_of go.actor.seat.me
+  -- so two records can be compared between turns
   pub settled : go.actor.behind ≡ 0
   pub gathered : List Drawn
   pub prints : (record_of_goroutine r.setup go).clock.prints ≡ gathered ++ ungathered_prints go
@@ -82,6 +85,7 @@ pub record IsOf (r : Run) (go : Goroutine) : Type 0 where
   pub adopted : List ℕ
   pub children : (record_of_goroutine r.setup go).clock.children ≡ numbers go.children.items ++ adopted
   pub all : AreChildren r go.children.items
+  -- its record shows whether it ended the run, so a driver need not trust it
   pub first : (record_of_goroutine r.setup go).clock.first ≡ option_map mark_of go.first
 
 -- ---- what is taken from it

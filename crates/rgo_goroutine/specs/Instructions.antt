@@ -1,11 +1,11 @@
--- A goroutine at its next instruction.
+-- A goroutine at its next instruction. The stages before it are named one by one, since a turn may be over after each of them.
 use Rattle.std.specs.Prelude.{◌≡◌, ◌+◌, ◌<◌, ◌≤◌, ℕ, ⊤, false, true, List, [], ◌∷◌, MatchResult, None, Option, Result}
 use Rattle.rgo_sound.specs.RegionMachine.States.{Duty}
 use Rattle.rgo_sound.specs.Typed.declared.actions.Action.{Action}
 use Rattle.rgo_sound.specs.Typed.declared.actions.Action.TheVariants as action
-use Rattle.rgo_acts.specs.Body.Bodies.{CanCount, HasRoomBehind, BodyIsReady}
+use Rattle.rgo_acts.specs.Body.Bodies.{CanCount, HasRoomBehind, BodyIsReady, OffersNothing}
 use Rattle.rgo_acts.specs.Body.declared.bodies.Body.{Body}
-use Rattle.rgo_acts.specs.Body.declared.bodies.Side.TheVariants.{AtRest, Offering}
+use Rattle.rgo_acts.specs.Body.declared.bodies.Side.TheVariants.{AtRest}
 use Rattle.rgo_core.specs.Channels.Standing.{IsOfChannel}
 use Rattle.rgo_core.specs.Rule.declared.accesses.Access.{Access}
 use Rattle.rgo_sound.specs.Memory.declared.traps.Trap.{Trap}
@@ -27,7 +27,7 @@ pub record GoroutineIsAt (r : Run) (go : Goroutine) (next : Next) (left : ℕ) :
   pub goes : MayMakeInstructions r go left
   pub some : 0 < left
   pub ready : BodyIsReady r.program go.actor.body next
-  pub none : (at : ℕ) → go.actor.body.side ≡ Offering at → ⊥
+  pub none : OffersNothing go.actor.body
   pub room : HasRoomBehind go.actor.body next
 
 -- its table has pages, and a channel's control can count the words of 64 of them, which a channel may have as data pages
@@ -51,19 +51,19 @@ pub record HasAttendedOne (b d : Body) : Type 0 where
 pub record HasAttendedAll (b d : Body) : Type 0 where
   pub empty : d.queue.duties ≡ []
   pub expanded : d.is_expanded ≡ b.is_expanded
-  pub none : (at : ℕ) → d.side ≡ Offering at → ⊥
+  pub none : OffersNothing d
 
 -- it has no duty in its queue, and does not know yet what it owes before its next instruction
 pub record IsReadyToExpand (b : Body) : Type 0 where
   pub empty : b.queue.duties ≡ []
   pub not_yet : b.is_expanded ≡ false
-  pub none : (at : ℕ) → b.side ≡ Offering at → ⊥
+  pub none : OffersNothing b
 
 -- it owes nothing before its next instruction, and has no offer
 pub record OwesNothing (b : Body) : Type 0 where
   pub empty : b.queue.duties ≡ []
   pub expanded : b.is_expanded ≡ true
-  pub none : (at : ℕ) → b.side ≡ Offering at → ⊥
+  pub none : OffersNothing b
 
 -- the action loads or stores one word
 abbrev pub IsOfWord : Action → Type 0

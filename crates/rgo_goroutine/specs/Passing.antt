@@ -1,4 +1,4 @@
--- What passes between a goroutine and its driver between turns.
+-- What passes between a goroutine and its driver between turns. Each says where all that left one side is on the other, in which order.
 use mathlib.Core.Logic.{◌↔◌}
 use Rattle.std.specs.Prelude.{◌≡◌, ◌≤◌, ◌^◌, ◌++◌, ◌∷◌, ℕ, Bool, true, List, [], length}
 use Rattle.rgo_core.specs.Memory.Words.{clock_at}

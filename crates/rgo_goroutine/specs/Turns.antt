@@ -1,4 +1,5 @@
--- What a turn of a goroutine leaves, and why it was over.
+-- What a turn of a goroutine leaves, and why it was over. The reason is stated by what the accesses of the turn found, not by what is so
+-- afterwards: other goroutines may have acted since.
 use Rattle.std.specs.Prelude.{◌≡◌, ◌⊎◌, ◌+◌, ◌<◌, ◌≤◌, ◌^◌, ℕ, false, List, [], ◌++◌, Some}
 use Rattle.rgo_core.specs.Memory.Words.{clock_at}
 use Rattle.rgo_core.specs.Rule.Passes.{ChangesNothingBy}
@@ -27,6 +28,7 @@ use Rattle.rgo_goroutine.specs.declared.turning.Turned.{Turned}
 -- goroutines that it has started, come to those that it had.
 pub record GoroutineTurns (r : Run) (old new : Goroutine) (n : ℕ) (es : List Access) : Type 0 where
   pub grew : SeatGrew accesses (first_of r.setup.code) old.actor.seat.me es new.actor.seat.me
+  -- by this access its seat has seen all accesses of its own; a driver in a pass needs that
   pub some : accesses (record_of_goroutine r.setup old) < accesses (record_of_goroutine r.setup new)
   pub steps : steps_of (record_of_goroutine r.setup new) ≡ steps_of (record_of_goroutine r.setup old) + n
   pub draws : List Drawn
@@ -59,8 +61,8 @@ LacksFor shortage.Pages T g c es = LacksPage T g c es
 LacksFor shortage.Regions T g c es = LacksSlot T g c es
 LacksFor shortage.ObjectSize T g c es = ⊥
 
--- Why the turn was over, of which n instructions were made, at most `slice`, and whose list of changed channels has `changed` of
--- its eight entries. es are the accesses that its seat has seen since.
+-- Why the turn was over. It has made n instructions, at most `slice`, and its list of changed channels has `changed` of its eight
+-- entries. es are the accesses that its seat has seen since.
 abbrev pub TurnStops : (r : Run) (old new : Goroutine) (slice n changed : ℕ) (es : List Access) → TableTurnEnd → Type 0
 TurnStops r old new slice n changed es stop.Went =
     SameFirst r old new × (((n ≡ slice) ⊎ (changed ≡ 8)) ⊎ (HoldsMuch new ⊎ FoundEnd (number_of old.actor.seat.me) es))

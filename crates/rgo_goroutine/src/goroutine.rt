@@ -49,7 +49,8 @@ pub(crate) struct Child {
     pub(crate) number: u64,
 }
 
-/// Whether these prints have as many bytes as end a turn.
+/// Whether these prints have as many bytes as end a turn. It stops at the first print that makes them enough, so it never adds up more
+/// than a number can hold.
 pub(crate) fn hold_much(prints: &[Print]) -> bool
     ensures { (result ≡ true) ↔ (65536 ≤ printed_byte_count prints.now) }
 {
@@ -66,7 +67,8 @@ pub(crate) fn hold_much(prints: &[Print]) -> bool
     false
 }
 
-/// Moves the prints that are not void to the end of another list.
+/// Moves the prints that are not void to the end of another list. Void ones were drawn after the end of the run, so nobody waits for
+/// their tickets.
 fn move_valid(prints: &mut Vec<Print>, into: &mut Vec<Print>)
     requires room { vec_len prints.old ≤ vec_capacity into.old - vec_len into.old }
     ensures moved { into.new.items ≡ into.old.items ++ valid prints.old.items }
@@ -80,7 +82,7 @@ fn move_valid(prints: &mut Vec<Print>, into: &mut Vec<Print>)
     }
 }
 
-/// Makes goroutines of children, at the end of a list.
+/// Makes goroutines of children, at the end of a list. The list has room already, so none can be lost in the middle.
 fn raise(alloc: Global, run: &Run<'_, '_>, children: &mut Vec<Child>, into: &mut Vec<Goroutine>)
     requires room { vec_len children.old ≤ vec_capacity into.old - vec_len into.old }
     requires stand { AreChildren run.now children.old.items }
@@ -94,7 +96,8 @@ fn raise(alloc: Global, run: &Run<'_, '_>, children: &mut Vec<Child>, into: &mut
     }
 }
 
-/// The records of goroutines that were started come to the seat of their driver, the oldest first.
+/// The records of goroutines that were started come to the seat of their driver, the oldest first. They never had a turn, but their
+/// records are needed: the driver closes the table with the records of all.
 fn hand_over(run: &Run<'_, '_>, started: &mut Vec<Child>, seat: &mut RunSeat)
     requires stand { AreChildren run.now started.old.items }
     requires own { IsSeatOf seat.old.table_id run.now.table clock_at }
@@ -172,7 +175,7 @@ impl Goroutine {
         self.number
     }
 
-    /// How many of its prints were not gathered.
+    /// How many of its prints were not gathered, void ones among them.
     pub fn new_prints(&self) -> usize
         ensures { result ≡ length self.now.prints.items }
     {
@@ -193,7 +196,7 @@ impl Goroutine {
         self.first
     }
 
-    /// What it has made and done.
+    /// What it has made and done. Read between turns alone, so no two workers count in it at once.
     pub fn tally(&self) -> &Counts
         ensures { (r : runs.Run) → IsOf r self.now → result.now ≡ (record_of_goroutine r.setup self.now).clock.share }
     {

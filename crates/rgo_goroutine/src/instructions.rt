@@ -12,7 +12,7 @@ ghost use Rattle.rgo_sound.specs.RegionMachine.Objects.{makes_object};
 ghost use Rattle.rgo_sound.specs.RegionMachine.States.{Stopped};
 ghost use Rattle.rgo_sound.specs.Tac.Code.{Call, Do, Go, Print, Return};
 ghost use Rattle.rgo_sound.specs.Tac.Ops.{numbers_of, operation_of};
-ghost use Rattle.rgo_acts.specs.Body.Bodies.{CanCount, frames_of_body};
+ghost use Rattle.rgo_acts.specs.Body.Bodies.{CanCount, OffersNothing, frames_of_body};
 ghost use Rattle.rgo_acts.specs.Body.declared.bodies.Side.TheVariants as side;
 ghost use Rattle.rgo_acts.specs.Actors.{ActorActed, IsActorOf, now};
 ghost use Rattle.rgo_acts.specs.Objects.{ActorMakes};
@@ -58,7 +58,7 @@ impl Goroutine {
         requires some { (0 < turning.old.left) × (turning.old.changed.count < 8) }
         requires empty { self.old.actor.body.queue.duties ≡ [] }
         requires expanded { self.old.actor.body.is_expanded ≡ true }
-        requires none { (at : ℕ) → self.old.actor.body.side ≡ side.Offering at → ⊥ }
+        requires none { OffersNothing self.old.actor.body }
         ensures { MakesInstruction run.now self.old self.new turning.old turning.new result }
     {
         // It knows of no channel unless it tries again.
@@ -121,7 +121,7 @@ impl Goroutine {
         self.perform(alloc, run, next, turning, steps)
     }
 
-    /// The instruction itself.
+    /// The instruction itself. Each kind is a function of its own, whose contract names its operation.
     fn perform<L: Ledger>(
         &mut self,
         alloc: Global,
@@ -266,7 +266,7 @@ impl Goroutine {
         }
     }
 
-    /// Operates on a channel.
+    /// Operates on a channel. It is tried once: whether to try again in this turn is decided by what came of it.
     fn talk<L: Ledger>(
         &mut self,
         run: &Run<'_, '_>,
@@ -318,7 +318,7 @@ impl Goroutine {
         }
     }
 
-    /// Calls a function.
+    /// Calls a function. Only the depth of calls is a limit of the run; want of memory is not, and the call can be made later.
     fn call(
         &mut self,
         run: &Run<'_, '_>,
@@ -347,7 +347,7 @@ impl Goroutine {
         }
     }
 
-    /// Starts a goroutine.
+    /// Starts a goroutine. Memory for its place in the list is taken first: a child that no list holds would be lost to the driver.
     fn start(
         &mut self,
         alloc: Global,
@@ -386,7 +386,7 @@ impl Goroutine {
         }
     }
 
-    /// A number was refused before: the run ends.
+    /// A number was refused before: the run ends. The refusal was remembered, so a turn that was interrupted there does not draw again.
     fn too_many(&mut self, run: &Run<'_, '_>, next: &Next<'_>) -> TableTurnEnd
         requires before { ActorIsBefore run.now self.old.actor next.now }
         requires starts { (n : ℕ) × (from : List ℕ) × (operation_of next.now.op ≡ Go n from) }
@@ -461,7 +461,7 @@ impl Goroutine {
         )
     }
 
-    /// `main` returns from its first function.
+    /// `main` returns from its first function, which ends the run, even while others have work.
     fn exit(
         &mut self,
         run: &Run<'_, '_>,
@@ -484,7 +484,7 @@ impl Goroutine {
         Some(self.over(Mark::Ended(End::Exit), ended))
     }
 
-    /// An instruction that may trap was made, or traps.
+    /// An instruction that may trap was made, or traps. A trap ends the whole run, so nothing of the turn comes after it.
     fn unless_trapped(
         &mut self,
         run: &Run<'_, '_>,

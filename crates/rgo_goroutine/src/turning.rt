@@ -3,7 +3,7 @@
 //! accesses of that act; a caller that needs it of one moment makes a pass.
 ghost use Rattle.std.specs.Prelude.{◌≡◌, ◌+◌, ◌-◌, ◌∷◌, ◌<◌, ◌≤◌, [], ℕ, List, OnOk, Some, None, false, true, ◌↔◌};
 ghost use Rattle.rgo_core.specs.Records.{steps_of};
-ghost use Rattle.rgo_acts.specs.Body.Bodies.{HasRoomBehind, frames_of_body};
+ghost use Rattle.rgo_acts.specs.Body.Bodies.{HasRoomBehind, OffersNothing, frames_of_body};
 ghost use Rattle.rgo_acts.specs.Body.Nexts.{IsNextOf};
 ghost use Rattle.rgo_acts.specs.Body.Steps.{StillShows};
 ghost use Rattle.rgo_acts.specs.Body.declared.bodies.Side.TheVariants as side;
@@ -48,7 +48,7 @@ pub enum TableTurnEnd {
     NoMemory,
 }
 
-/// The channels that a turn has changed, by the words of their controls, of which a table has no more than 2^32, so that goroutines
+/// The channels that a turn has changed, by the words of their controls (a table has at most 2^32 words), so that goroutines
 /// that wait there can be woken. It is a hint: no contract says which words it has.
 #[derive(Clone, Copy)]
 pub struct Changed {
@@ -97,7 +97,7 @@ impl Turning {
         self.printed = self.printed.saturating_add(bytes);
     }
 
-    /// It may have changed something.
+    /// It may have changed something. Said too often, it only costs the driver another round before it looks for a deadlock.
     pub(crate) fn move_on(&mut self)
         ensures { self.new ≡ record self.old { moved = true } }
     {
@@ -236,7 +236,7 @@ impl Goroutine {
     ) -> Option<TableTurnEnd>
         requires goes { MayMakeInstructions run.now self.old turning.old.left }
         requires noted { turning.old.changed.count < 8 }
-        requires none { (at : ℕ) → self.old.actor.body.side ≡ side.Offering at → ⊥ }
+        requires none { OffersNothing self.old.actor.body }
         ensures acts { GoroutineActs run.now self.old self.new turning.old turning.new result }
         ensures same { turning.new ≡ record turning.old { moved = turning.new.moved } }
         ensures ready { result ≡ None → OwesNothing self.new.actor.body }
@@ -253,7 +253,7 @@ impl Goroutine {
         self.attend_all(run, turning, steps)
     }
 
-    /// Whether one more of each thing can be counted.
+    /// Whether one more of each thing can be counted. Asked before each act, since the counts of an act cannot be refused after it.
     pub(crate) fn can_count(&self, run: &Run<'_, '_>) -> bool
         ensures { (result ≡ true) ↔ CanCountMore run.now self.now }
     {
@@ -270,7 +270,7 @@ impl Goroutine {
     ) -> Option<TableTurnEnd>
         requires goes { MayMakeInstructions run.now self.old turning.old.left }
         requires noted { turning.old.changed.count < 8 }
-        requires none { (at : ℕ) → self.old.actor.body.side ≡ side.Offering at → ⊥ }
+        requires none { OffersNothing self.old.actor.body }
         ensures acts { GoroutineActs run.now self.old self.new turning.old turning.new result }
         ensures same { turning.new ≡ record turning.old { moved = turning.new.moved } }
         ensures done { result ≡ None → HasAttendedAll self.old.actor.body self.new.actor.body }
@@ -281,7 +281,7 @@ impl Goroutine {
         self.attend_each(run, turning, steps)
     }
 
-    /// Attends to one duty after another.
+    /// Attends to one duty after another. It may stop between any two: each duty is a step of its own, and what is left stays owed.
     fn attend_each<L: Ledger>(
         &mut self,
         run: &Run<'_, '_>,
@@ -360,15 +360,15 @@ impl Goroutine {
     }
 
     /// Executes instructions up to the next one that the loop cannot make. A goroutine that tries a channel again, or has an offer
-    /// there, is left where it is.
+    /// there, is left where it is: its next instruction is that operation, which the loop cannot make.
     fn execute(&mut self, run: &Run<'_, '_>, turning: &mut Turning)
         requires goes { MayMakeInstructions run.now self.old turning.old.left }
         requires noted { turning.old.changed.count < 8 }
-        requires none { (at : ℕ) → self.old.actor.body.side ≡ side.Offering at → ⊥ }
+        requires none { OffersNothing self.old.actor.body }
         requires empty { self.old.actor.body.queue.duties ≡ [] }
         requires not_yet { self.old.actor.body.is_expanded ≡ false }
         ensures acts { GoroutineActs run.now self.old self.new turning.old turning.new None }
-        ensures none { (at : ℕ) → self.new.actor.body.side ≡ side.Offering at → ⊥ }
+        ensures none { OffersNothing self.new.actor.body }
         ensures noted { turning.new.changed ≡ turning.old.changed }
         ensures fewer { turning.new.left ≤ turning.old.left }
     {
@@ -429,7 +429,7 @@ fn room_behind_offer(
     }
 }
 
-/// A word as a list has it. A table has no more than 2^32 words, so each of them has a number of its own.
+/// A word as a list has it. A table has at most 2^32 words, so each of them has a number of its own.
 fn listed(at: usize) -> u32 {
     u32::try_from(at).unwrap_or(u32::MAX)
 }

@@ -1,4 +1,5 @@
--- Pages that are put on a chain, and chains that are given back, access by access.
+-- Pages that are put on a chain, and chains that are given back, access by access. The loop ends because the record counts the pages
+-- that it still owes, and a link of 0 and a count of 0 come together.
 use Rattle.std.proofs.Common.{◌≡◌, ℕ, suc, ◌+◌, ◌-◌, ◌*◌, ◌<◌, ◌≤◌, List, [], ◌∷◌, ◌++◌, refl, ap, subst, ◌∙◌, arith, append_assoc, length-append}
 use Rattle.rgo_core.specs.Rule.Histories.{access}
 use Rattle.rgo_core.specs.Rule.Views.{Me}

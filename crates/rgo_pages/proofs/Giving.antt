@@ -1,4 +1,5 @@
--- Which accesses make a record give a chain back.
+-- Which accesses make a record return a chain: all accesses in turn. Each leaves that field alone, but for a leave that found the last
+-- stake.
 use Rattle.std.specs.Option.{option_map, option_map_or}
 use Rattle.std.proofs.Common.{◌≡◌, ◌≢◌, ◌⊎◌, ◌==◌, ℕ, Bool, true, false, List, [], ◌∷◌, Option, Some, None, if◌then◌else◌, unwrap_or, inl, inr, ⊎_elim, refl, ap}
 use Rattle.rgo_sound.specs.Code.Code.{Branch, Call, Code, CodeFn, CodeOp, Do, Go, Jump, Print, Return}

@@ -1,4 +1,4 @@
--- Who gives pages back at each moment, by the image of the table.
+-- Which goroutine returns pages at each moment. It is read off the invariant of the table, which has one goroutine for each chain.
 use Rattle.std.proofs.Common.{◌≡◌, ℕ, suc, ◌<◌, List, Some, map, slice_get, slice_index, refl, sym, subst, ◌∙◌, arith}
 use Rattle.rgo_sound.specs.RegionMachine.Machine.{Event}
 use Rattle.rgo_core.specs.Memory.Ground.{ground_of}

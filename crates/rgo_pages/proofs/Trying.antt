@@ -1,4 +1,5 @@
--- Exchanges of the states of pages, by what each found.
+-- Exchanges of the states of pages, by what each found. A miss changes nothing of the record but its list of tried pages, so what the
+-- instruction needs is the same at the next exchange.
 use prog.Atomic.{either}
 use Rattle.std.proofs.Common.{◌≡◌, ◌≢◌, ◌<◌, ℕ, suc, ◌+◌, ◌==◌, Bool, true, false, List, [], ◌∷◌, Option, Some, None, if◌then◌else◌, add-one, arith, ap, refl, ◌∙◌, inl, inr}
 use Rattle.rgo_sound.specs.Memory.Memory.{Object}

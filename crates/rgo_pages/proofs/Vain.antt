@@ -1,4 +1,4 @@
--- What a search in vain shows.
+-- What a search in vain shows. The search goes around, so each page is among the tried ones whatever the first one was.
 use Rattle.std.proofs.Common.{◌≡◌, ℕ, ◌<◌, List, [], ◌∷◌, ⊎_elim, sym, subst, arith}
 use Rattle.std.proofs.lemmas.Bool.Decides.{nat_tests}
 use Rattle.rgo_core.specs.Rule.declared.accesses.Kind.TheVariants.{ClaimPage}
@@ -18,7 +18,7 @@ times_more s p ps h = grind (arith, nat_tests, h)
 times_here : (s p : ℕ) (ps : List ℕ) → p ≡ s → 0 < occurrences s (p ∷ ps)
 times_here s p ps e = let w = times_first s p ps e in omega (arith, w)
 
--- what a record remembers it goes on to remember
+-- a record keeps what it remembers
 kept : (s : ℕ) (ts : List Miss) (c : Record) → 0 < occurrences s c.memory.tried_pages → 0 < occurrences s (missing tried_page c ts).memory.tried_pages
 kept s [] c h = h
 kept s (t ∷ ts) c h = kept s ts (tried_page c t.place) (times_more s t.place c.memory.tried_pages h)

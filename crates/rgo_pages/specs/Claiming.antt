@@ -17,8 +17,9 @@ use Rattle.rgo_core_steps.specs.Pages.{claims_or_reserves, tried_page}
 use Rattle.rgo_core_steps.specs.Searches.{AreTaken, Miss, TookFreePlace, TookOne, Tried, TriedAll, around, misses, missing, places_of, upward}
 use Rattle.rgo_core_steps.specs.Seats.{mine}
 
--- The goroutine of seat m, whose record is c after its local steps, has exchanged the states of pages, each at most once: it found
--- that of this page 0, and has claimed it for this slot, as an own page or as one of a spread object, and all before it in use.
+-- The goroutine of seat m, whose record is c after its local steps, has exchanged the states of pages, each at most once. It found
+-- those before this page in use and that of this page 0, and so has claimed this page for the slot, as an own page or as one of a
+-- spread object.
 abbrev pub PageTaken : Setup → TableSizes → (slot : ℕ) → (c : Record) → (page : ℕ) → (m w : Me Record) → Type 0
 PageTaken T z s c p m w =
     TookOne accesses (first_of T.code) ClaimPage (state_at z) tried_page c z.pages p (s + 1) (λ d. claims_or_reserves T d p s) m w
@@ -32,7 +33,7 @@ abbrev pub PageOrNone : Setup → TableSizes → (slot : ℕ) → (c : Record) �
 PageOrNone T z s c None m w = AllPagesTried T z c m w
 PageOrNone T z s c (Some p) m w = (p < z.pages) × PageTaken T z s c p m w
 
--- it has exchanged the states from `first` to `end`, until it found one 0
+-- it has exchanged the states from `first` to `end`, until it found one 0; stated for a part of the pages, since the search goes around
 abbrev pub PagesTried : Setup → TableSizes → (slot first end : ℕ) → (c : Record) → Option ℕ → (m w : Me Record) → Type 0
 PagesTried T z s first end c None m w =
     Tried accesses (first_of T.code) ClaimPage (state_at z) tried_page c (upward first (end - first)) m w

@@ -36,7 +36,7 @@ pub record ReleaseLaw : Type 0 where
   pub its : AtEach (λ T words recs g c. (slot page next : ℕ) → c.memory.give ≡ Past slot (suc page) next
       → (page < T.sizes.pages) × (slice_index words (state_at (layout T) page) ≡ suc slot))
 
--- ---- how a record comes to give a chain back
+-- ---- how a record comes to return a chain
 
 -- the chain that it returns is the same
 abbrev pub GivesTheSame : Record → Record → Type 0

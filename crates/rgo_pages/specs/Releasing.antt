@@ -19,12 +19,12 @@ pub record Freed : Type 0 where
   pub next : ℕ
   pub state : ℕ
 
--- from this link on each page is the one before it linked to, up to this link
+-- From this link on each page is the one before it linked to, up to this link. A chain that ends with 0 has all pages of its slot.
 abbrev pub LinksLeadTo : (from : ℕ) → List Freed → (to : ℕ) → Type 0
 LinksLeadTo from [] to = from ≡ to
 LinksLeadTo from (f ∷ fs) to = (from ≡ suc f.page) × LinksLeadTo f.next fs to
 
--- what goroutine g does with the pages: it loads the next word of each before it frees it
+-- What goroutine g does with the pages: it loads the next word of each before it frees it, since a free page may get another next word.
 abbrev pub freeing : TableSizes → List Freed → (g : ℕ) → List Access
 freeing z [] g = []
 freeing z (f ∷ fs) g =
@@ -57,6 +57,7 @@ pub record ChainGiven (T : Setup) (z : TableSizes) (slot : ℕ) (c : Record) (n 
   pub freed : List Freed
   pub chain : LinksLeadTo head freed cursor
   pub count : length freed ≡ n
+  -- so the difference of the two is what is left to free
   pub low : n ≤ c.clock.owed
   pub made : Made accesses (first_of T.code) m (λ g. access g LoadHead (head_at z slot) head head ∷ freeing z freed g)
       (giving c slot n cursor) w

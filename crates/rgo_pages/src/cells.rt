@@ -1,7 +1,7 @@
 //! Words of objects and package variables, each by one access.
 //!
 //! 1. The goroutine that makes an object stores each of its words once (`zero`), in whatever order. Nobody else has its address
-//!    before the last of these stores. Of a spread object it stores the words in several pages (`zero_apart`), and in the lead page
+//!    before the last of these stores. If the object is spread, it stores the words in several pages (`zero_apart`), and in the lead page
 //!    the numbers of the data pages (`set_index`).
 //! 2. From then on each goroutine that has come to know the address, and has a stake in the region, loads and stores the words
 //!    (`load`, `store`). None is locked: a load finds what the last store to the word has stored, whoever made it.
@@ -56,8 +56,8 @@ pub fn zero<L: Ledger>(
     memory::zero(table, seat, behind, word, value, index);
 }
 
-/// The same of a word of a spread object, which lies in the pages that are reserved for it. The numbers of its data pages have to
-/// be stored, too.
+/// The same of a word of a spread object, which lies in the pages that are reserved for it. The object exists only when the numbers of
+/// its data pages are stored, too: whoever gets its address loads them.
 pub fn zero_apart<L: Ledger>(
     table: &RunTable,
     seat: &mut RunSeat,
@@ -136,7 +136,7 @@ pub fn load<L: Ledger>(
 }
 
 /// Takes the length of nil as the next instruction: it is 0, and no word is loaded for it. A load of the clock puts the instruction
-/// into the run.
+/// into the run, since an instruction that is not a local step needs an access.
 pub fn length_of_nil<L: Ledger>(
     table: &RunTable,
     seat: &mut RunSeat,
@@ -215,7 +215,8 @@ pub fn index<L: Ledger>(
     memory::index(table, seat, behind, word, address, before, cell)
 }
 
-/// Stores a word as the next instruction: to a field, an element or a package variable.
+/// Stores a word as the next instruction: to a field, an element or a package variable. Other goroutines may store to it at the same
+/// time; the order of the accesses to the word decides.
 pub fn store<L: Ledger>(
     table: &RunTable,
     seat: &mut RunSeat,

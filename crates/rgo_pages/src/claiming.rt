@@ -91,12 +91,13 @@ pub fn claim_from<L: Ledger>(
     }
 }
 
-/// What a search in vain shows: each page was found in use at an exchange of the call.
+/// What a search in vain shows: each page was found in use at an exchange of the call. The driver compares this with the accesses of
+/// others to show that a run lacks pages.
 pub fn full_law()
     ensures { FullPagesLaw }
 {}
 
-/// Claims a page, where the looks begin at this one.
+/// Claims a page. The looks begin at this one, which exists.
 fn claim_at<L: Ledger>(
     table: &RunTable,
     seat: &mut RunSeat,
@@ -220,7 +221,7 @@ fn beginning(table: &RunTable, sizes: &TableSizes, from: usize) -> usize
     }
 }
 
-/// The first page from `first` to `end` that looks free.
+/// The first page from `first` to `end` that looks free. It may be claimed before the exchange; then the exchange finds that out.
 fn look(table: &RunTable, sizes: &TableSizes, first: usize, end: usize) -> Option<usize>
     requires layout { HasLayout (setup_of table.now.shared.key) sizes.now table.now.shared.table_id }
     requires ends { (first ≤ end) × (end ≤ sizes.now.pages) }
@@ -234,7 +235,8 @@ fn look(table: &RunTable, sizes: &TableSizes, first: usize, end: usize) -> Optio
     None
 }
 
-/// Exchanges the states of the pages from `first` to `end` in turn, until one is found 0.
+/// Exchanges the states of the pages from `first` to `end` in turn, until one is found 0. Pages in use are exchanged, too: only an
+/// exchange proves that a page was in use.
 fn try_pages<L: Ledger>(
     table: &RunTable,
     seat: &mut RunSeat,

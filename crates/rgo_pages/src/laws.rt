@@ -1,8 +1,8 @@
 //! Who returns the pages of a region, and when.
 //!
-//! A page changes its owner by two accesses alone. `claim` exchanges its state from 0, so that no page is claimed that is claimed for
-//! a region already; and `free` stores 0. A goroutine may free a page only while its record says that it returns the chain of a
-//! slot. The record comes to say so by `leave` where that found the last stake, and by no other access; it stops with `free_slot`.
+//! A page changes its owner only by two accesses. `claim` exchanges its state from 0, so no page is claimed twice. `free` stores 0; a
+//! goroutine may do so only while its record says that it returns the chain of a slot. The record says so from a `leave` that found
+//! the last stake, and after no other access, until `free_slot`.
 ghost use Rattle.rgo_pages.specs.Examples.{PageExamples};
 ghost use Rattle.rgo_pages.specs.Laws.{GiveLaw, ReleaseLaw};
 

@@ -2,7 +2,7 @@
 //! next word of each page is loaded before the page is freed, and the head is cleared at last. The slot is freed after that, by
 //! `free_slot` of `rgo_counts`.
 //!
-//! Nobody else accesses the chain meanwhile: to claim a page for the slot takes a stake, of which none is left, and no new region
+//! Nobody else accesses the chain meanwhile: to claim a page for the slot takes a stake, but none is left, and no new region
 //! has the slot before it is freed. Only pages that were freed may be claimed again, for other slots. Why: docs/DECISIONS.md,
 //! "Counts and pages as words".
 ghost use Rattle.std.specs.Prelude.{◌≡◌, ◌<◌, ◌≤◌, ◌+◌, ◌*◌, ℕ, suc, [], ◌∷◌};
@@ -21,8 +21,8 @@ use rgo_core_steps::counting::Steps;
 use rgo_core_steps::pages;
 use std::sync::ledger::Ledger;
 
-/// Frees the pages of a region whose last stake this goroutine has ended, and returns how many: as many as its record still has to
-/// free, so the loop ends. The head is cleared once, at the end, since nobody reads it before.
+/// Frees the pages of a region whose last stake this goroutine has ended, and returns how many. That number is in its record, so the
+/// loop ends. The head is cleared once, at the end, since nobody reads it before.
 pub fn release<L: Ledger>(
     table: &RunTable,
     seat: &mut RunSeat,

@@ -1,4 +1,5 @@
--- Calls and returns of the newest frame.
+-- Calls and returns of the newest frame. The steps are those of `rgo_compact`; new are the limit of frames, and a return to a caller at a
+-- stop, where only the variable of the result matters of the caller's instruction.
 use Rattle.std.proofs.Common.{◌≡◌, ◌+◌, ◌<◌, ◌≤◌, ◌∙◌, ◌++◌, ◌∷◌, ◌⊎◌, inl, inr, ℕ, List, [], Option, Some, None, zero, suc, refl, ap, sym, subst, arith}
 use Rattle.std.proofs.Common.{length, take, drop, get_or, slice_get}
 use Rattle.std.proofs.lemmas.List.{length-set, length-take-le, take-take}
@@ -70,7 +71,7 @@ not_full fs n f arguments words callers p known takes room depth full =
 
 -- ---- returns
 
--- a caller that there is does not depend on the default
+-- an entry of the list does not depend on the default
 pub any_default : (callers : List Caller) (k : ℕ) (c d : Caller) → k < length callers → get_or callers k c ≡ get_or callers k d
 any_default [] k c d within = absurd (omega (arith, within))
 any_default (x ∷ callers) zero c d within = refl
@@ -89,7 +90,7 @@ target_below words base top (Some b) within a e =
     let same : b ≡ a = same_Some b a e in
     omega (arith, below, same)
 
--- what a caller is given depends on its instruction by the variable of the result alone
+-- What a caller is given depends on its instruction by the variable of the result alone, so the compact call may be replaced by the code's.
 resumed_for : (f : WordFrame) (op : CodeOp) (to w : Option ℕ) → call_target op ≡ to
     → word_resumed_by f op w ≡ word_resumed_by f (Call to 0 [] [] [] []) w
 resumed_for f op to None e = refl

@@ -1,4 +1,4 @@
--- The examples.
+-- The examples, by computation.
 use Rattle.std.proofs.Common.{◌≡◌, ◌+◌, ◌∙◌, ◌∷◌, [], Some, refl, ap, sym, subst, arith, length, slice_get}
 use Rattle.std.proofs.lemmas.Option.{same_Some}
 use Rattle.rgo_sound.specs.Code.Code.{Call, CodeInstr}

@@ -1,4 +1,5 @@
--- Compact functions, by what their code says.
+-- Compact functions, by what their code says: each place of a function has the same number in both, so a fact about an instruction of the
+-- code is one about the compact instruction there.
 use Rattle.std.proofs.Common.{◌≡◌, ◌<◌, ◌≤◌, ◌∙◌, ℕ, List, Option, Some, None, refl, ap, sym, subst, arith, length, slice_get}
 use Rattle.std.proofs.lemmas.Option.{same_Some, slice_get_within}
 use Rattle.rgo_sound.specs.Code.Code.{Branch, Call, Code, CodeFn, CodeInstr, CodeOp, Return}
@@ -55,7 +56,7 @@ no_return : (value to : Option ℕ) (n : ℕ) (from : List ℕ) (passes : List C
     → Return value ≡ Call to n from passes protects removes → ⊥
 no_return value to n from passes protects removes e = cc
 
--- what stands for a call is a call or a stop
+-- what represents a call is a call or a stop: nothing else, since a fold has no calls
 waits_at : (code : Code) (arguments : List (List ℕ)) (body : List CodeInstr) (at : ℕ) (x : Operation) (instr : CodeInstr)
     (to : Option ℕ) (n : ℕ) (from : List ℕ) (passes : List Class) (protects removes : List ℕ)
     → slice_get body at ≡ Some instr → instr.op ≡ Call to n from passes protects removes

@@ -1,4 +1,4 @@
--- A stack with more room shows the same frames.
+-- A stack with more room shows the same frames: both lists only grow at their ends, above all that is shown.
 use Rattle.std.proofs.Common.{◌≡◌, ◌<◌, ◌≤◌, ◌∙◌, ◌∷◌, ℕ, List, Some, zero, suc, refl, ap, sym, subst, arith, length, take, get_or}
 use Rattle.std.proofs.lemmas.List.{get_or-take, take-take}
 use Rattle.rgo_sound.specs.Machine.Limits.{deepest}

@@ -1,4 +1,5 @@
--- The frames of a stack are at instructions of its functions, and have a word for each of their variables.
+-- The frames of a stack are at instructions of its functions, and have a word for each of their variables. By induction over the callers,
+-- each of which ends where the frame above it begins.
 use Rattle.std.proofs.Common.{◌≡◌, ℕ, List, Option, Some, None, zero, suc, arith, length, take, drop, get_or}
 use Rattle.std.proofs.lemmas.List.{length-drop, length-take-le}
 use Rattle.std.specs.List.{AllByRecursion}

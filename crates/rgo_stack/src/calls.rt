@@ -20,13 +20,14 @@ use std::alloc::AllocError;
 /// Why a function cannot be called.
 #[derive(Clone, Copy)]
 pub enum NoCall {
-    /// The goroutine has as many frames as it may have.
+    /// The goroutine has as many frames as it may have. The run ends with that limit; more memory would not help.
     TooDeep,
     NoMemory,
 }
 
 impl Stack {
-    /// Room for a frame of this many words above the newest one, and for one more caller. Nothing else changes.
+    /// Room for a frame of this many words above the newest one, and for one more caller. Nothing else changes, so it does not matter
+    /// if the second list gets no memory after the first has got its own.
     fn make_room(
         &mut self,
         compact: &CompactCode,
@@ -95,7 +96,8 @@ impl Stack {
     }
 
     /// The newest frame returns a variable, or nothing, to its caller, which continues after its call; `to` is the variable
-    /// of the result there. After the first function has returned there is no frame.
+    /// of the result there. After the first function has returned there is no frame. Unlike the loop's return, this one also serves
+    /// a caller at a stop: its call passed regions, so the variable of the result comes from the code, not from a compact call.
     pub fn come_back(&mut self, compact: &CompactCode, value: Option<u32>, to: Option<u32>)
         requires belongs { spec.Belongs compact.now self.old }
         requires can { CanReturn compact.now value to (spec.frames_of_stack self.old) }

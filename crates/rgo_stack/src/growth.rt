@@ -8,7 +8,7 @@ use rgo_compact::Caller;
 use rgo_sound::machine::DEEPEST;
 use std::alloc::AllocError;
 
-/// The length of the first list of callers.
+/// The length of the first list of callers: few, since a goroutine that waits should take little memory.
 const FIRST_CALLERS: usize = 4;
 
 /// At least `needed` words. On allocation failure nothing has changed.

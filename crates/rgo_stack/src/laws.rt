@@ -9,7 +9,7 @@ pub fn frames_law()
     ensures { FramesLaw }
 {}
 
-/// What an operation asks of compact functions, from what is known of their code.
+/// What an operation asks of compact functions, from what is known of their code. With this the callers need to know the code alone.
 pub fn places_law()
     ensures { PlaceLaws }
 {}

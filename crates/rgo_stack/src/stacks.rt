@@ -1,4 +1,5 @@
-//! The stack of a goroutine, and what is read of it.
+//! The stack of a goroutine, and what is read of it. Reads of the newest frame are the most frequent calls from other crates, so they
+//! are inlined and take no list of frames.
 
 ghost use Rattle.std.specs.Prelude.{◌≡◌, ◌<◌, ◌≤◌, ◌∷◌, ℕ, List, Some, [], IfOk, drop, get_or, length, map, take};
 ghost use Rattle.rgo_sound.specs.Code.Code.{Code, CodeFn};
@@ -60,7 +61,8 @@ fn word_at(words: &[u64], base: usize, top: usize, v: u32) -> u64
     words[base + v as usize]
 }
 
-/// The word of a variable; 0 if there is no such variable.
+/// The word of a variable; 0 if there is no such variable. Checked code always has the variable; the definition says 0, so that it
+/// needs no proof of that.
 fn word_or_zero(variables: &[u64], v: u32) -> u64
     ensures { result ≡ word_or_zero variables.now v }
 {
@@ -70,7 +72,7 @@ fn word_or_zero(variables: &[u64], v: u32) -> u64
     }
 }
 
-/// The newest of `depth` callers.
+/// The newest of `depth` callers. The list may be longer: entries above the depth are left over from deeper calls.
 fn place_of(callers: &[Caller], depth: usize) -> Option<Place>
     requires { depth ≤ length callers.now }
     ensures { (words : List ℕ) → result ≡ spec.newest_place (stack_frames words (callers_in callers.now depth)) }
@@ -85,7 +87,7 @@ fn place_of(callers: &[Caller], depth: usize) -> Option<Place>
     })
 }
 
-/// The words of some variables.
+/// The words of some variables, for a goroutine that is started: it gets a copy, since it has a stack of its own.
 fn gather(alloc: Global, variables: &[u64], from: &[u32]) -> Result<Vec<u64>, AllocError>
     ensures { IfOk result (λ ws. ws.items ≡ map (word_or_zero variables.now) from.now) }
 {
@@ -165,7 +167,7 @@ impl Stack {
         }
     }
 
-    /// The words of the newest frame's variables.
+    /// The words of the newest frame's variables; none after the first function has returned.
     pub fn variables(&self) -> &[u64]
         requires { (fs : List CompactFn) × spec.Belongs fs self.now }
         ensures { result.now ≡ spec.newest_words (spec.frames_of_stack self.now) }

@@ -16,7 +16,7 @@ pub fn rows_law()
 {}
 
 /// How a driver comes to have what it must have at the close: a view with a family has the rows of all goroutines, their shares by
-/// number add up to what all have counted, and prints of which each was given out or waits for the one before it were all given
+/// number add up to what all have counted, and if each print was given out or waits for the one before it, all were given
 /// out.
 pub fn gathering_laws()
     ensures rows { FamilyIsAll }
@@ -41,7 +41,8 @@ pub fn closing_law()
     ensures claims { ClosedClaims }
 {}
 
-/// What a look and a turn show of a goroutine in a pass, and that it stays so.
+/// What a look and a turn show of a goroutine in a pass, and that it stays so. A driver applies these while other goroutines still have
+/// their turns of the pass, so what it has learned must last.
 pub fn pass_laws()
     ensures look { KnowsByLook }
     ensures turn { PassesByTurn }
@@ -58,12 +59,12 @@ pub fn shortage_law()
     ensures { FindsShortage }
 {}
 
-/// It is a run of the three-address code.
+/// The run that explains a table is, without its regions, a run of the three-address code.
 pub fn code_law()
     ensures { RunsAsCode }
 {}
 
-/// Of checked code it is what the claim on the whole program says.
+/// For checked code it is what the claim on the whole program says.
 pub fn claim_law()
     ensures { GivesClaim }
 {}

@@ -1,4 +1,5 @@
--- Loads and stores of fields, of lengths and of package variables: the word is one of the table, and it is the instruction's.
+-- Loads and stores of fields, of lengths and of package variables: the word is one of the table, and it is the instruction's. That a
+-- pointer leads to words of its struct is an invariant of the table, so only nil has a case.
 use Rattle.std.proofs.Common.{◌≡◌, ◌<◌, ◌≤◌, ◌+◌, ◌-◌, ℕ, suc, List, [], ◌∷◌, Contains, Some, None, length, inl, inr, ap, refl, subst, sym, ◌∙◌, arith}
 use Rattle.rgo_core.specs.Frames.shown.WordFrames.{WordFrame, frame_word}
 use Rattle.rgo_core.specs.moves.Cells.{IsAtSpread, LoadsField, PointsToSpread, PointsToWhole, StoresField}

@@ -1,4 +1,5 @@
--- What is left by an access that is the next instruction, a load or a store. The record of the run, s, is as its fields have it.
+-- What is left by an access that is the next instruction, a load or a store: `acted_does` for each kind. s is the run as its fields have
+-- it: the contracts of lower crates speak of the fields, so the equation `is` is used here once and not by each caller.
 use Rattle.std.proofs.Common.{◌≡◌, ℕ, [], sym, subst}
 use Rattle.rgo_core.specs.Memory.Words.{clock_at}
 use Rattle.rgo_core.specs.Rule.declared.accesses.Kind.TheVariants as kind

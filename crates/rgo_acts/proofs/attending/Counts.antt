@@ -1,4 +1,5 @@
--- What duties leave, as local steps or by accesses to counts.
+-- What duties leave, as local steps or by accesses to counts. The longest part is the end of a last stake: the pages go before the slot,
+-- and between the two the record says that it returns a chain.
 use Rattle.std.proofs.Common.{◌≡◌, ◌≢◌, ◌+◌, ◌<◌, ◌≤◌, ◌++◌, inl, inr, ℕ, zero, suc, false, List, [], ◌∷◌, Option, Some, None, refl, sym, ap, ◌∙◌, subst, if◌then◌else◌, length, option_and_then, slice_index, arith}
 use Rattle.std.proofs.lemmas.Bool.Decides.{nat_tests}
 use Rattle.std.proofs.lemmas.List.{append-nil}
@@ -64,7 +65,7 @@ module _ (r : Run) (a : Actor) (d : Duty) (before : IsAtDuty r a d) where
   pub owes_first : (now r.setup a).frame.holder.duties ≡ d ∷ (before.others ++ later r.program.code a.body)
   owes_first = first r.setup r.program a.body (now r.setup a) d before.others before.stands.shows before.owes
 
--- its next instruction is nearer
+-- its next instruction is nearer, since a duty that is done leaves no new one
 pub nearer : (p : CompactProgram) (b e : Body) → HasDoneDuty b e → distance p e < distance p b
 nearer p b e done =
     let l : length (owed_by_body p.code e) ≡ length (e.queue.duties ++ later p.code b) =
@@ -139,7 +140,7 @@ like_tries (t ∷ ts) c = let l = like_tries ts (tried_slot c t.place) in record
   refused = l.refused;
 }
 
--- the clock goes on as it was, but for accesses
+-- the clock stays as it was, but for accesses
 record IsOld (c d : Record) : Type 0 where
   steps : steps_of d ≡ steps_of c
   prints : d.clock.prints ≡ c.clock.prints
@@ -296,7 +297,7 @@ claims_few : (states : ℕ → ℕ) (n r : ℕ) → pages_at states n r ≤ n
 claims_few states zero r = omega arith
 claims_few states (suc n) r = let a = claims_few states n r in grind (arith, nat_tests, a)
 
--- no more pages are owed than there are
+-- no more pages are owed than there are, so what it counts of them cannot overflow
 pub few_owed : (T : Setup) (g : ℕ) (c : Record) (slot : ℕ) → Situation T g c → c.memory.give ≡ Owes slot → c.clock.owed ≤ T.sizes.pages
 few_owed T g c slot x owes =
     let a : c.clock.owed ≡ claimed_for (layout T) x.words slot =
@@ -434,7 +435,7 @@ leave_slot r a d before sizes key l result is =
       },
     )
 
--- ---- what the end of a stake tells
+-- ---- what follows from the end of a stake
 
 record ToldOthers (c : Record) (slot : ℕ) (e : Record) : Type 0 where
   k : Holder
@@ -498,7 +499,7 @@ others_stay r a d before b own behind possible done shows slot i found f left so
     (shows r.setup (number_of a.seat.me) (now r.setup a) (mine r.setup b.seat.me) slot t.k before.stands.possible before.stands.shows t.ends
     (same_goroutine r a d before slot i found f b.seat.me left (ap accesses t.is) possible) (ap (λ (x : Record). x.frame) t.is))
 
--- ---- as calls tell it
+-- ---- as the contracts state it
 
 pub shared_by : (r : Run) (a : Actor) (name : ℕ) (before : IsAtDuty r a (Share name)) (b : Actor) → b.seat.table_id ≡ a.seat.table_id
     → b.behind ≡ 0 → HasPossible r.setup b.seat.me → (slot : ℕ) (k : Holder) → sharing (now r.setup a) ≡ Some (slot, k)

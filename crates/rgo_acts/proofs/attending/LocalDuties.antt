@@ -1,4 +1,4 @@
--- Duties that are local steps, one after another.
+-- Duties that are local steps, one after another. Each is a step of the run, and none is an instruction.
 use Rattle.std.proofs.Common.{◌≡◌, ◌+◌, ◌∙◌, Bool, true, false, [], Option, Some, None, Result, Ok, Err, MatchOption, OnErr, OnOk, ap, is_ok, is_some, not, refl, sym, subst}
 use Rattle.rgo_holding.specs.declared.keys.Key.{Key}
 use Rattle.rgo_body.specs.Duties.{DoesLocal, LeavesIn}

@@ -1,4 +1,5 @@
--- A goroutine that is before an operation on a channel, or whose offer is at one, told by its record.
+-- A goroutine that is before an operation on a channel, or whose offer is at one, by its record. The body has the instruction and the side;
+-- the record has the rest, and both are at the same place since the body shows the record.
 use Rattle.std.proofs.Common.{◌≡◌, ◌≢◌, ◌⊎◌, ◌+◌, ◌-◌, ◌<◌, ◌≤◌, ◌++◌, ℕ, zero, suc, List, [], ◌∷◌, Option, Some, length, slice_get, refl, ap, sym, subst, ◌∙◌, inl, inr, arith, Contains}
 use Rattle.std.proofs.lemmas.Option.{same_Some}
 use Rattle.rgo_sound.specs.Code.Code as code
@@ -290,7 +291,7 @@ accessed_same (suc k) q =
     let m = accessed_same k q in
     record { prints = m.prints; first = m.first; children = m.children; refused = m.refused; share = m.share; owed = m.owed }
 
--- the body still shows the record after accesses that have told something of its channel
+-- the body still shows the record after accesses that have found out something about its channel
 pub shows_offering : (T : Setup) (p : CompactProgram) (b : Body) (c : Record) (k : ℕ) (side : SideRec) (at : ℕ) → b.side ≡ Offering at
     → BodyShows T p b c → side.hold ≡ Free → side.post ≡ sides.Offering at → BodyShows T p b (waited k c side)
 shows_offering T p b c k side at offers shows free post =

@@ -1,4 +1,5 @@
--- Where a goroutine is that is before an instruction, told by its record.
+-- Where a goroutine is that is before an instruction, by its record. The code's operation is found again from the erased one of the body;
+-- all other proofs about instructions begin here.
 use Rattle.std.proofs.Common.{◌≡◌, ◌<◌, ◌-◌, ℕ, zero, suc, inl, Contains, Bool, true, if◌then◌else◌, List, [], ◌∷◌, ◌++◌, Option, Some, length, slice_get, refl, ap, sym, subst, ◌∙◌, arith}
 use Rattle.rgo_sound.specs.Code.Code as code
 use Rattle.rgo_sound.specs.Code.Code.{Code, CodeInstr, CodeOp}
@@ -52,7 +53,7 @@ owes_none code b empty expanded =
     ap (λ (ds : List Duty). ds ++ (if b.is_expanded then [] else next_duties code (bare_all (frames_of_body b)))) empty
     ∙ ap (λ (e : Bool). if e then [] else next_duties code (bare_all (frames_of_body b))) expanded
 
--- a goroutine that is before an instruction, told by its body and its record
+-- a goroutine that is before an instruction, by its body and its record
 module _ (r : Run) (a : Actor) (next : Next) (before : ActorIsBefore r a next) where
   abbrev pub newest : WordFrame
   newest = before.ready.is_next.w
@@ -111,7 +112,7 @@ module _ (r : Run) (a : Actor) (next : Next) (before : ActorIsBefore r a next) w
       (subst (λ (op : Op). UsesVariable op v) (sym (ap (λ (x : CodeInstr). erased_op x.op) instr ∙ n.op)) uses) in
       (n.w, n.ws, n.are, subst (λ m. v < m) (sym i.words) exists)
 
--- ---- the code's operation, by what is left of it where nothing is said of regions
+-- ---- the code's operation, by what erasure leaves of it
 
 pub do_of : (op : CodeOp) (to : Option ℕ) (act : Action) (from : List ℕ) → erased_op op ≡ tac.Do to act from
     → (removes : List ℕ) × (op ≡ code.Do to act from removes)
@@ -173,7 +174,7 @@ module _ (r : Run) (a : Actor) (next : Next) (before : ActorIsBefore r a next) w
       → (removes : List ℕ) × (before.ready.is_next.instr.op ≡ code.Print pieces from removes)
   here_print pieces from e = print_of before.ready.is_next.instr.op pieces from (before.ready.is_next.op ∙ e)
 
-  -- after its access the body shows the record after the action, which gives this word
+  -- after its access the body shows the record after the action, whose value is this word
   pub at_position : position r.setup.code (now r.setup a) ≡ Some (record {
     w = before.ready.is_next.w;
     ws = before.ready.is_next.ws;
@@ -201,7 +202,7 @@ module _ (r : Run) (a : Actor) (next : Next) (before : ActorIsBefore r a next) w
         first = ap (λ (c : Record). c.clock.first) is;
       }
 
-  -- one access that is this instruction, an action that gives this word
+  -- one access that is this instruction, an action whose value is this word
   pub acted_does : (b : Actor) (kind : Kind) (i found : ℕ) (f : ℕ → ℕ) (tells : ℕ → Record → Type 0) (word : ℕ)
       → b.seat.table_id ≡ a.seat.table_id → b.behind ≡ 0 → HasAccessed r.setup kind i f tells a.seat.me found b.seat.me
       → HasPossible r.setup b.seat.me

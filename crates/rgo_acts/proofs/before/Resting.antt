@@ -1,4 +1,5 @@
--- A goroutine that is before no operation on a channel knows nothing of channels.
+-- A goroutine that is before no operation on a channel knows nothing of channels. The invariant of the table says where a goroutine is that
+-- knows of one; the body then shows that it is there, too.
 use Rattle.std.proofs.Common.{◌≡◌, ◌⊎◌, ◌∙◌, ◌++◌, ℕ, List, [], ◌∷◌, Option, Some, slice_get, refl, ap, sym, subst, inl, inr}
 use Rattle.std.proofs.lemmas.Option.{none-some, same_Some}
 use Rattle.rgo_sound.specs.Code.Code as code

@@ -1,4 +1,5 @@
--- Ends of the run: the cause of each, and what setting the end mark leaves.
+-- Ends of the run: the cause of each, and what setting the end mark leaves. The cause is in the record before the access, so it does not
+-- matter what others do at the same time.
 use Rattle.std.proofs.Common.{◌≡◌, ◌+◌, ◌<◌, ◌≤◌, ◌∙◌, ◌^◌, ◌⊎◌, inl, inr, ℕ, suc, Bool, true, false, List, [], ◌∷◌, Option, Some, ap, sym, subst, refl, arith, if◌then◌else◌, length, bit_or}
 use Rattle.std.proofs.lemmas.Bool.{cases_lt}
 use Rattle.std.proofs.lemmas.Bool.Decides.{nat_tests}
@@ -133,7 +134,7 @@ module _ (r : Run) (a b : Actor) (stands : IsActorOf r a) (own : b.seat.table_id
       high (inl low) late = let same : false ≡ true = sym late ∙ sets.1.1 low in cc
       high (inr above) late = omega (arith, above)
 
--- ---- what it leaves, where the run is seen by its fields
+-- ---- what it leaves, for the run as its fields have it, of which the contracts of lower crates speak
 
 module _ (s r : Run) (seen_is : s ≡ r) (a b : Actor) (stands : IsActorOf r a) (own : b.seat.table_id ≡ a.seat.table_id) (at_once : b.behind ≡ 0)
     (possible : HasPossible s.setup b.seat.me) (ends : Bool) where

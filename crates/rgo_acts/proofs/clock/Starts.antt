@@ -1,4 +1,5 @@
--- Starts of goroutines.
+-- Starts of goroutines. The seat is split by the access, and both records come from the parent's: that of the child has its frames and
+-- regions, and nothing else.
 use Rattle.std.proofs.Common.{◌≡◌, ◌+◌, ◌∙◌, ℕ, false, List, [], ◌∷◌, Option, Some, None, ap, arith, refl, subst, sym}
 use Rattle.std.proofs.lemmas.List.{append-nil}
 use Rattle.std.proofs.lemmas.Option.{none-some, same_Some}

@@ -1,4 +1,4 @@
--- Actors and runs that are as their definitions say, and such as are not.
+-- Actors and runs that meet their definitions, and some that do not.
 use Rattle.std.proofs.Common.{◌≡◌, ◌+◌, ◌++◌, inl, inr, ℕ, suc, Bool, List, [], ◌∷◌, Some, length, if◌then◌else◌, true, false, refl, ap, sym, ◌∙◌, length-append, arith}
 use Rattle.rgo_core.specs.Frames.shown.WordFrames.{WordFrame, frame_word}
 use Rattle.rgo_core.specs.Memory.Records.{Located, Measured}

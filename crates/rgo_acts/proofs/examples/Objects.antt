@@ -1,4 +1,4 @@
--- The examples.
+-- The examples, by computation.
 use Rattle.std.proofs.Common.{◌<◌, ℕ, zero, suc, [], ◌∷◌, Some, refl, subst, arith, slice_index}
 use Rattle.rgo_core.specs.Next.{IsAtOp}
 use Rattle.rgo_core_facts.proofs.NewWords.{makes_slice}

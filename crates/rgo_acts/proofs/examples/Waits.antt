@@ -1,4 +1,4 @@
--- The examples.
+-- The examples, by computation.
 use Rattle.std.proofs.Common.{inl, None, ◌≡◌, ◌≢◌, ℕ, zero, suc, [], ◌∷◌, Some, refl, ap, sym, ◌∙◌, inr, arith}
 use mathlib.Core.Option.{some, some-injective, some-ne-none}
 use lib.ListN.{get_elem?}

@@ -1,4 +1,5 @@
--- The words of a new spread object and the numbers of its data pages are stored one after the other.
+-- The words of a new spread object and the numbers of its data pages are stored one after the other. By induction over the stores; the hard
+-- part is where each goes, since three kinds of words share one count.
 use Rattle.std.proofs.Common.{◌≡◌, ◌⊎◌, ◌+◌, ◌-◌, ◌*◌, ◌/◌, ◌%◌, ◌<◌, ◌≤◌, ◌^◌, ◌∙◌, inl, inr, ℕ, Bool, suc, List, ap, sym, subst, refl, arith, if◌then◌else◌, length, nat_lt, slice_index}
 use Rattle.std.proofs.Math.Nat.{div-mul-le_self, lt-div-mul-add, mod-lt, mul-le-mul_right}
 use Rattle.std.proofs.lemmas.Nat.{le-div}
@@ -86,14 +87,14 @@ module _ (T : Setup) (c : Record) (pages : List ℕ) (new : New) (p : IsSpreadOv
   pub numbers_are : numbers ≡ (new.words - new.before - 1) / n + 1
   numbers_are = some_apart n new.words new.before p.spread
 
-  -- a page has room for the words before the cells and for the numbers
+  -- a page has room for the words before the cells and for the numbers, since an object may not have more data pages than fit there
   pub room_for_numbers : new.before + numbers ≤ n
   room_for_numbers = let e = numbers_are in let small = p.small in let few = p.few in omega (arith, e, small, few)
 
   pub words_in_page : 0 < n
   words_in_page = let e = numbers_are in let room = room_for_numbers in omega (arith, e, room)
 
-  -- so many words can be counted
+  -- that number of words can be counted
   pub few_words : new.words ≤ 64 * n + 2
   few_words =
       let e = numbers_are in

@@ -1,4 +1,5 @@
--- Which object the next instruction makes: a struct, a slice or a channel.
+-- Which object the next instruction makes: a struct, a slice or a channel. They differ in how many words precede the cells and in which
+-- word is not 0; everything else about new objects is proved once.
 use Rattle.std.proofs.Common.{◌≡◌, ◌⊎◌, ◌+◌, ◌-◌, ◌/◌, ◌<◌, ◌≤◌, ◌∙◌, ◌^◌, ◌==◌, ℕ, Bool, true, false, suc, List, [], ◌∷◌, Option, Some, None, ap, sym, subst, refl, inl, inr, arith, if◌then◌else◌, length, slice_get}
 use Rattle.std.proofs.Math.Nat.{lt-div-mul-add, mul-le-mul_right}
 use Rattle.std.proofs.lemmas.Bool.{cases_lt}
@@ -65,7 +66,7 @@ pub none_apart : (n words before : ℕ) → words ≤ n → data_pages_of n word
 none_apart n words before fits =
     ap (λ (b : Bool). if b then (words - before - 1) / n + 1 else 0) (not_less n words fits)
 
--- so many has one that does not
+-- the data pages of one that does not
 pub some_apart : (n words before : ℕ) → n < words → data_pages_of n words before ≡ (words - before - 1) / n + 1
 some_apart n words before more = ap (λ (b : Bool). if b then (words - before - 1) / n + 1 else 0) (less n words more)
 

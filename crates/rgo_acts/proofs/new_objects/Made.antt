@@ -1,4 +1,5 @@
--- A new object is made: its words were stored, and the instruction is done.
+-- A new object is made: its words were stored, and the instruction is done. The last store does the instruction, so the record after it is
+-- that after the step.
 use Rattle.std.proofs.Common.{◌≡◌, ◌+◌, ◌*◌, ◌∙◌, ℕ, suc, List, [], Some, ap, sym, subst, refl, arith, slice_index}
 use Rattle.std.proofs.lemmas.List.{append-nil}
 use Rattle.rgo_core.specs.Rule.declared.accesses.Access.{Access}

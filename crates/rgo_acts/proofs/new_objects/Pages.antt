@@ -1,4 +1,5 @@
--- The page for a new object: the goroutine's own one, or one that it claims.
+-- The page for a new object: the goroutine's own one, or one that it claims. A search in vain changes only what the record has found in
+-- use, so what the instruction needs is as before.
 use Rattle.std.proofs.Common.{◌≡◌, ◌+◌, ◌<◌, ◌≤◌, ◌∙◌, ◌++◌, ℕ, Bool, true, false, suc, List, [], ◌∷◌, Option, Some, None, MatchOption, ap, sym, subst, refl, inl, inr, arith, if◌then◌else◌, length, length-append}
 use Rattle.std.proofs.lemmas.List.{append-nil}
 use Rattle.std.specs.Option.{option_map}
@@ -249,7 +250,7 @@ module _ (r : Run) (a : Actor) (next : Next) (before : ActorIsBefore r a next) (
 
   module _ (b : Actor) (own : b.seat.table_id ≡ a.seat.table_id) (at_once : b.behind ≡ 0) (possible : HasPossible T b.seat.me)
       (z : TableSizes) (sizes : z ≡ layout T) where
-    -- each page was in use
+    -- each page was in use: the goroutine is as it was, since nothing that it needs has changed
     pub none_free : b.body ≡ a.body → NeedsPage T c slot → AllPagesTried T z c a.seat.me b.seat.me → HasNoPage r a b
     none_free body need t =
         let full = full_law T z c a.seat.me b.seat.me t in
@@ -420,7 +421,7 @@ module _ (r : Run) (a : Actor) (next : Next) (before : ActorIsBefore r a next) (
           objects = claim_objects page t took taken goes all shown;
         }
 
--- ---- the same, where the run is seen by its fields. The sizes are those of its table.
+-- ---- the same for the run as its fields have it, so that the callers need no rewriting; the sizes are those of its table
 
 abbrev TellsPage : Actor → New → Option Page → Type 0
 TellsPage a new own = (T : Setup) (p : CompactProgram) (c : Record) (region : Region) → BodyShows T p a.body c

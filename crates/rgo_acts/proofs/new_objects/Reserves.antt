@@ -1,4 +1,5 @@
--- The pages of a spread object are reserved one after the other.
+-- The pages of a spread object are reserved one after the other. They outlast a turn, so the induction begins at those that are reserved
+-- already.
 use Rattle.std.proofs.Common.{◌≡◌, ◌+◌, ◌-◌, ◌*◌, ◌<◌, ◌≤◌, ◌^◌, ◌∙◌, ◌++◌, ℕ, suc, List, [], ap, sym, subst, refl, arith, length, slice_index}
 use Rattle.std.proofs.Math.Nat.{mul-le-mul_right}
 use Rattle.rgo_core.specs.Rule.Views.{number_of}

@@ -1,4 +1,5 @@
--- The words of a new object are stored one after the other.
+-- The words of a new object are stored one after the other, by induction over the stores. Nobody else stores there, so what was stored
+-- stays.
 use Rattle.std.proofs.Common.{◌≡◌, ◌+◌, ◌*◌, ◌<◌, ◌≤◌, ◌∙◌, ◌⊎◌, inl, inr, ℕ, suc, ap, sym, subst, refl, arith}
 use Rattle.std.proofs.lemmas.Bool.{cases_lt}
 use Rattle.rgo_core.specs.Rule.Views.{Me, number_of}

@@ -1,4 +1,5 @@
--- What an operation on a channel leaves, by its accesses and by the body after them.
+-- What an operation on a channel leaves, by its accesses and by the body after them. The general part; the single results are in
+-- `Talking`.
 use Rattle.std.proofs.Common.{◌≡◌, ℕ, zero, suc, List, [], ◌∷◌, Option, length, refl, ap, sym, subst, ◌∙◌, arith}
 use mathlib.Core.Option.{some, some-injective, some-ne-none}
 use lib.ListN.{get_elem?}

@@ -1,4 +1,5 @@
--- What is said of an operation on a channel, by what rgo_chan says of its try.
+-- What is said of an operation on a channel, by what rgo_chan says of its try: each result of the one is a result of the other. Tries that
+-- came to nothing made accesses that changed no word, which is what `IsWaiting` needs.
 use Rattle.std.proofs.Common.{◌+◌, ◌≡◌, ◌≢◌, ◌⊎◌, ◌%◌, ℕ, List, [], ◌∷◌, ◌++◌, Some, None, refl, ap, sym, subst, ◌∙◌, ⊎_elim, inr}
 use Rattle.rgo_core.specs.Channels.Records as sides
 use Rattle.rgo_core.specs.Channels.Records.{ChannelRec as SideRec, with_look, with_own_look, with_size}
@@ -21,13 +22,13 @@ use Rattle.rgo_chan.proofs.Carrying.{at_send_as, closes_as, closes_there, receiv
 use Rattle.rgo_chan.proofs.Looking.{look_hold, look_post, look_saw, own_hold, own_post, own_saw}
 use Rattle.rgo_body.specs.Programs.{CompactProgram}
 use Rattle.rgo_body.specs.Shows.{BodyShows}
-use Rattle.rgo_body.specs.Steps.{Becomes}
+use Rattle.rgo_body.specs.Steps.{Becomes, TriesOperation}
 use Rattle.rgo_body.specs.declared.bodies.Body.{Body}
 use Rattle.rgo_body.specs.declared.bodies.Side.TheVariants.{Offering}
 use Rattle.rgo_body.specs.declared.nexts.Next.{Next}
 use Rattle.rgo_acts.specs.Actors.{IsActorOf, now}
 use Rattle.rgo_acts.specs.Runs.{Run}
-use Rattle.rgo_acts.specs.Talks.{CanTry, TryConcludes, HasLost, IsWaiting, OfAcknowledgement, OfClose, OfReceive, Says, Talks, TriesOperation}
+use Rattle.rgo_acts.specs.Talks.{CanTry, TryConcludes, HasLost, IsWaiting, OfAcknowledgement, OfClose, OfReceive, Says, Talks}
 use Rattle.rgo_acts.specs.Traps.{IsAtTrap}
 use Rattle.rgo_acts.specs.Waits as waits
 use Rattle.rgo_acts.specs.declared.actors.Actor.{Actor}
@@ -351,7 +352,7 @@ module _ (r : Run) (a b : Actor) (before : IsActorOf r a) (own : b.seat.table_id
         tt,
       )
 
--- the same where s is how the fields of the run have it
+-- the same for s, the run as its fields have it, of which the contracts of lower crates speak
 module _ (s r : Run) (is : s ≡ r) (a b : Actor) (before : IsActorOf r a) (own : b.seat.table_id ≡ a.seat.table_id) (at_once : b.behind ≡ 0)
     (possible : HasPossible s.setup b.seat.me) (m t at : ℕ) (offers : a.body.side ≡ Offering at) where
   pub acknowledges_there : (answer : Tried) (x : Talked)

@@ -1,4 +1,4 @@
--- The run behind a table as the claim on the whole program has it.
+-- The run that explains a table, as the claim on the whole program states it: a repacking of what the closing laws give.
 use Rattle.std.proofs.Common.{refl, subst}
 use Rattle.std.specs.Prelude.{◌≡◌, List, Some}
 use Rattle.rgo_sound.specs.RegionMachine.Machine.{Event}

@@ -1,4 +1,4 @@
--- As many picks as instructions, before the end.
+-- Before the end there are as many picks as instructions. By induction over the events of the run.
 use Rattle.std.proofs.Common.{◌≡◌, ℕ, ◌+◌, List, [], ◌∷◌, ◌++◌, Option, Some, None, length, refl, ap, sym, subst, arith, length-append}
 use Rattle.std.proofs.lemmas.Option.{same_Some}
 use Rattle.std.specs.Prelude.{option_map, unwrap_or, slice_get}

@@ -1,4 +1,5 @@
--- A run with regions within the limits, and the run within them that it erases to.
+-- A run with regions within the limits, and the run within them that it erases to. By induction over the events; steps with regions alone
+-- erase to nothing, and the first end mark is kept.
 use Rattle.std.proofs.Common.{◌≡◌, ℕ, true, List, [], ◌∷◌, ◌++◌, Option, Some, None, refl, ap, sym, subst, ◌∙◌, append_assoc}
 use Rattle.std.proofs.lemmas.Option.{same_Some}
 use Rattle.std.proofs.lemmas.List.{append-nil}

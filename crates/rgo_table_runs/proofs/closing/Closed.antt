@@ -1,4 +1,5 @@
--- What a driver has when the table is closed gives the run of the program.
+-- What a driver has when the table is closed gives the run of the program. The rule of the table gives the run; what is left is that the
+-- driver's rows are all rows, and that its reason is the run's.
 use Rattle.std.proofs.Common.{◌≡◌, ℕ, zero, suc, ◌≤◌, List, [], ◌∷◌, Option, Some, None, length, map, take, slice_get, refl, ap, sym, subst, ◌∙◌, arith}
 use Rattle.std.proofs.lemmas.Option.{same_Some}
 use Rattle.std.specs.Io.KnownBytes.{Appends}

@@ -1,4 +1,5 @@
--- From the run behind a table, and why the driver says that it has ended, to the run of the program.
+-- From the run that explains a table, and why the driver says that it has ended, to the run of the program. The hard case is a run with an
+-- end mark: steps after the mark are cut off, and must not have printed.
 use Rattle.std.proofs.Common.{◌≡◌, ℕ, ◌+◌, ◌<◌, ◌≤◌, max, Bool, true, false, List, [], ◌∷◌, ◌++◌, Option, Some, None, length, take, refl, ap, sym, subst, ◌∙◌, arith, append_assoc}
 use Rattle.std.proofs.lemmas.List.{append-nil}
 use Rattle.std.proofs.lemmas.Option.{same_Some}

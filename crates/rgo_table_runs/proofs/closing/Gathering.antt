@@ -1,4 +1,5 @@
--- What a driver has gathered is all that there is.
+-- What a driver has gathered is all that there is. For the prints: tickets have no gap, so if none waits and the next is not there, no
+-- later one is.
 use Rattle.std.proofs.Common.{◌⊎◌, inl, inr, ◌≡◌, ℕ, zero, suc, ◌+◌, ◌<◌, ◌≤◌, nat_le, Bool, true, false, List, [], ◌∷◌, Some, None, length, map, slice_get, refl, ap, sym, subst, ◌∙◌, ⊎_elim, arith}
 use Rattle.std.proofs.lemmas.Bool.Decides.{nat_tests}
 use Rattle.std.proofs.lemmas.Option.{same_Some}

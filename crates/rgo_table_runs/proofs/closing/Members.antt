@@ -1,4 +1,5 @@
--- What a driver follows of goroutines is kept by all that happens to them.
+-- What a driver follows of goroutines is kept by all that happens to them. Each case moves items between two lists of one member, or to a
+-- list of the driver; no other member is looked at.
 use Rattle.std.proofs.Common.{◌≡◌, ◌⊎◌, inl, inr, ℕ, zero, suc, false, List, [], ◌∷◌, ◌++◌, Some, None, map, slice_get, refl, ap, sym, subst, ◌∙◌, ⊎_elim}
 use mathlib.Core.Option.{some, some-injective, some-ne-none}
 use lib.ListN.{get_elem?}

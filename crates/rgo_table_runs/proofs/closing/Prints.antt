@@ -1,4 +1,5 @@
--- What a driver has given out is a beginning of the print, or all of it.
+-- What a driver has given out is a beginning of the print, or all of it. Each print is at the place of its ticket in both lists, which is
+-- all that the comparison needs.
 use Rattle.std.proofs.Common.{◌≡◌, ℕ, zero, suc, ◌<◌, ◌≤◌, ◌==◌, nat_le, false, List, [], ◌∷◌, ◌++◌, Option, Some, None, length, map, take, slice_get, count_by, refl, ap, sym, subst, ◌∙◌, arith, length-append, append_assoc}
 use Rattle.std.proofs.lemmas.Bool.Decides.{nat_tests}
 use mathlib.Core.Logic.{dite}
@@ -17,7 +18,7 @@ use Rattle.rgo_table_runs.proofs.closing.Rows.{some_part}
 
 -- ---- lists
 
--- a list whose elements stand in another one at their places is its beginning
+-- a list whose elements are at the same places of another one is its beginning
 begins : {A : Type 0} (xs ys : List A) → ((i : ℕ) (x : A) → get_elem? xs i ≡ some x → get_elem? ys i ≡ some x)
     → (length xs ≤ length ys) × (xs ≡ take (length xs) ys)
 begins [] ys h = (omega arith, refl)
@@ -138,7 +139,7 @@ module _ (words : List ℕ) (recs : List ClockRec) (s : RegionState) (before lat
             let v = valid_before d.1 p (omega (arith, f.0, ne, t)) in
             absurd (let z = all d.1 p v in omega (arith, z, t))
 
-  -- who has set the mark tells it
+  -- it is known from the record that has set the mark
   pub no_mark : IsFirst rows None → s.mark ≡ None
   no_mark none = go s.mark refl
     where

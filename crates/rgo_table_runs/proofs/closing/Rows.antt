@@ -1,4 +1,5 @@
--- Rows with the records of `main` and of all that goroutines have started are the records of all goroutines.
+-- Rows with the records of `main` and of all that goroutines have started are the records of all goroutines. That a family
+-- has all goroutines is a law of the table; the rest is that ascending rows without a gap are at the places of their numbers.
 use Rattle.std.proofs.Common.{◌≡◌, ℕ, zero, suc, ◌+◌, ◌<◌, ◌≤◌, List, [], ◌∷◌, Some, length, map, slice_get, sum_by, refl, ap, sym, subst, ◌∙◌, arith}
 use Rattle.std.proofs.lemmas.List.Sums.{sum_by-cons}
 use mathlib.Core.Logic.{dite}

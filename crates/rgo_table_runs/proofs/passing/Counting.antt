@@ -1,4 +1,5 @@
--- Where every page is claimed and no chain is given back, as many pages are in use as there are; the same of slots.
+-- If every page is claimed and no chain is given back, as many pages are in use as there are; the same of slots. Pages are counted by the
+-- slots that have them, each of which is a live region or Global.
 use Rattle.std.proofs.Common.{◌≡◌, ◌≢◌, ◌⊎◌, ℕ, zero, suc, ◌+◌, ◌-◌, ◌<◌, ◌≤◌, List, [], ◌∷◌, length, Some, slice_get, slice_index, sum_by, count_by, refl, ap, sym, subst, ◌∙◌, inl, inr, arith}
 use mathlib.Core.Logic.{dite}
 use native.Mathlib.Decide.{ℕ_discrete}

@@ -1,4 +1,5 @@
--- A goroutine that lacks a page or a slot is about to take one in the state of the run.
+-- A goroutine that lacks a page or a slot is about to take one in the state of the run, too: so the limit is a cause to end, not only the
+-- table's way to fill.
 use Rattle.std.proofs.Common.{◌≡◌, inl, inr, ℕ, zero, suc, ◌+◌, ◌<◌, ◌≤◌, true, false, List, ◌∷◌, Some, length, slice_get, refl, ap, sym, subst, ◌∙◌, ⊎_elim, arith}
 use Rattle.std.proofs.lemmas.Option.{same_Some}
 use Rattle.rgo_core.proofs.new_objects.MakesObject.{Made, at, b, made as it_makes}

@@ -1,4 +1,5 @@
--- If all goroutines have passed, each access of a turn found what its word holds in the end.
+-- If all goroutines have passed, each access of a turn found what its word holds in the end. Nobody has changed a word since the pass
+-- began: each goroutine's accesses are those before it and those of its turn.
 use Rattle.std.proofs.Common.{◌≡◌, ℕ, List, [], ◌∷◌, ◌++◌, Option, slice_index, ap, sym, subst, ◌∙◌, arith, append_assoc, zero, suc}
 use Rattle.std.proofs.lemmas.List.{append-nil}
 use mathlib.Core.Option.{some, some-ne-none}

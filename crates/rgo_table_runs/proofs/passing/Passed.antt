@@ -1,4 +1,4 @@
--- What follows from a pass.
+-- What follows from a pass: one moment at which all that the turns have found is so. At it each goroutine is blocked, over or lacking.
 use Rattle.std.proofs.Common.{◌≡◌, ◌≢◌, ℕ, zero, suc, ◌<◌, List, [], ◌∷◌, Option, Some, None, is_some, map, slice_get, slice_index, refl, ap, sym, subst, ◌∙◌, ⊎_elim}
 use Rattle.std.proofs.lemmas.Option.{same_Some}
 use Rattle.rgo_sound.specs.Code.Erasure.{erased}

@@ -1,4 +1,5 @@
--- A goroutine that is over has returned in the state of the run, and knows of no channel.
+-- A goroutine that is over has returned in the state of the run, and knows of no channel: both an offer and its acknowledgement would keep
+-- it at a send.
 use Rattle.std.proofs.Common.{◌≡◌, ℕ, true, false, List, [], ◌∷◌, Some, slice_get, refl, ap, sym, subst, ◌∙◌, ⊎_elim}
 use Rattle.std.proofs.lemmas.Option.{same_Some}
 use Rattle.rgo_sound.specs.Code.Code.{Code}
@@ -18,7 +19,7 @@ use Rattle.rgo_sound.specs.RegionMachine.States.{Holder}
 use Rattle.rgo_sound.specs.Tac.Frames.{TacFrame}
 use Rattle.rgo_goroutine.specs.Turns.{HasFinished}
 
--- no words of frames stand for no frames
+-- an empty list of words shows no frames
 shown_none : (code : Code) (addresses : List ℕ) (frames : List TacFrame) (ws : List WordFrame) → ws ≡ [] → FramesShow code addresses frames ws
     → frames ≡ []
 shown_none code addresses [] ws e k = refl
@@ -37,7 +38,7 @@ module _ {T : Setup} {g : ℕ} {c : Record} (x : Situation T g c) (over : HasFin
   pub returned : slice_get x.s.plain.goroutines g ≡ Some []
   returned = fitted.at ∙ ap Some (shown_none T.code x.core.image.addresses fitted.frames c.frame.frames over.frames shown.shown)
 
-  -- it has no offer: one that stands is at a send, and one that was taken is to be acknowledged
+  -- it has no offer: one that is there is at a send, and one that was taken is to be acknowledged
   by_phase : (o : ℕ) (k : Chan) → On x.s o k → (p : Phase) → x.core.image.at.phase o ≡ p → OfferOf p g → ⊥
   by_phase o k on Calm is own = own
   by_phase o k on (Offered h) is own =

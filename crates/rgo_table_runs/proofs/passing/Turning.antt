@@ -1,4 +1,5 @@
--- How a driver comes to know that a goroutine has passed.
+-- How a driver comes to know that a goroutine has passed. Its turn made an access, so its seat has seen the history up to there, and all
+-- its own accesses with it.
 use Rattle.std.proofs.Common.{◌≡◌, ◌+◌, ◌<◌, ℕ, suc, List, [], ◌++◌, Option, ap, sym, subst, ◌∙◌, inl, inr, arith, append_assoc}
 use Rattle.std.proofs.lemmas.List.{append-nil}
 use Rattle.rgo_core.specs.Records.{accesses}

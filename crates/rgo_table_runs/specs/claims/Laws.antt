@@ -21,7 +21,7 @@ RunsAsCode = (code : Code) (sizes : Sizes) (limits : Limits) (end : RunEnd) (tal
     → (r : RunsFreely (tac (erased code)) limits (tac_start (erased code)) end old new)
     × (r.picks ≡ picks_of code sizes t.events) × (r.state ≡ t.plain)
 
--- Of checked code it is what the claim says.
+-- For checked code it is what the claim says.
 abbrev pub GivesClaim : Type 0
 GivesClaim = (code : Code) (sizes : Sizes) (limits : Limits) (end : RunEnd) (tally : Counts) (old new : Option (List ℕ))
     → IsChecked code → Ascends code → TableRun code sizes limits end tally old new

@@ -1,4 +1,5 @@
--- Why a driver says that a run has ended so.
+-- Why a driver says that a run has ended so. The mark of a goroutine decides if one is set; the driver's own reasons must follow from
+-- the state of the run, since nobody has marked them.
 use Rattle.std.specs.Io.KnownBytes.{Appends}
 use Rattle.std.specs.Prelude.{◌≡◌, ◌<◌, ◌≤◌, ℕ, max, List, Option, Some, None, ⊤}
 use Rattle.rgo_sound.specs.Code.Code.{Code}
@@ -53,8 +54,7 @@ module _ (code : Code) (sizes : Sizes) (limits : Limits) (tested steps : ℕ) (s
 
 -- ---- what was given out
 
--- Of the prints: all that there are. Where memory has run out, as many as there was memory for; where a write has failed, what came
--- before that.
+-- The prints that were given out: all. If memory has run out, those for which there was memory; if a write has failed, those before it.
 abbrev pub GaveOut : Rows Record → List Drawn → RunEnd → Option (List ℕ) → Option (List ℕ) → Type 0
 GaveOut rows given run_end.NoMemory old new = Appends old new (bytes_of given)
 GaveOut rows given run_end.WriteFault old new = AppendsSome old new (bytes_of given)

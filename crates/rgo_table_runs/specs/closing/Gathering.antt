@@ -36,8 +36,8 @@ abbrev pub sum_of : List Counts → Counts
 sum_of [] = no_share
 sum_of (c ∷ cs) = counts_plus c (sum_of cs)
 
--- The share of each goroutine of the view is at the place of its number, and at each other place is nothing. Who has counted nothing may
--- have no place.
+-- The share of each goroutine of the view is at the place of its number, and at each other place is nothing. A goroutine that has counted
+-- nothing may have no place.
 pub record HasShares (v : View Record) (shares : List Counts) : Type 0 where
   pub its : (g : ℕ) (c : Record) → HasRow v.records g c
       → (slice_get shares g ≡ Some c.clock.share) ⊎ ((length shares ≤ g) × (c.clock.share ≡ no_share))

@@ -1,4 +1,5 @@
 -- What a driver follows of each goroutine from its start to the close, so that in the end it has all of them, and all that they printed.
+-- It is an invariant of the driver's lists alone: no access and no other goroutine can break it.
 use Rattle.std.specs.Prelude.{◌≡◌, ◌⊎◌, ℕ, false, List, [], ◌∷◌, ◌++◌, Some, map, slice_get}
 use mathlib.Core.Option.{some}
 use lib.ListN.{get_elem?}

@@ -1,4 +1,5 @@
--- The prints that a driver has given out.
+-- The prints that a driver has given out. Tickets were drawn one by one from 0, so a list in their order without a gap is a beginning of
+-- what the program prints.
 use Rattle.std.specs.Prelude.{◌≡◌, ◌<◌, ℕ, false, List, length, map}
 use mathlib.Core.Option.{some}
 use lib.ListN.{get_elem?}

@@ -1,4 +1,5 @@
--- What a driver knows after a pass, when its goroutines are retired and the table is closed.
+-- What a driver knows after a pass, when its goroutines are retired and the table is closed. Only then is there one history in which all
+-- turns of the pass are found.
 use Rattle.std.specs.Prelude.{◌≡◌, ℕ, List, ◌++◌, Option}
 use Rattle.rgo_core.specs.Core.{Setup}
 use Rattle.rgo_core.specs.Records.{Record}
