@@ -1,4 +1,10 @@
-//! The goroutines of a run, as their driver keeps them.
+//! The goroutines of a run, as a driver for tests keeps them.
+//!
+//! Invariant: the seat is one of the run's table, the table has pages, and all goroutines are of the run. No clause says that none
+//! is lost; the tests compare what a run has made.
+//!
+//! A clause sees only the run of a crew. So functions over the list of goroutines say what stays true of them, and the methods of `Crew`
+//! call these. Only the driver's thread calls them; while `turn_all_on` runs, each goroutine belongs to one thread.
 ghost use Rattle.std.specs.Prelude.{◌≡◌, ◌<◌, ◌≤◌, ◌∷◌, [], IfOk, IfSome};
 ghost use Rattle.std.specs.List.{All};
 ghost use Rattle.rgo_core.specs.Core.{IsPossible};
@@ -47,19 +53,20 @@ impl<'r, 'c> Model for Crew<'r, 'c> {
         × All (IsOf c.run.now) c.goroutines.items };
 }
 
-/// The most instructions of a goroutine that has another turn.
+/// The most instructions of a goroutine that has another turn. With those of the turn, fewer than 2^32, they stay below the 2^43 that
+/// `Goroutine::turn` requires.
 const MOST_STEPS: u64 = 1 << 42;
 
-/// The most turns of a goroutine in a thread.
+/// The most turns of a goroutine in a thread. No test comes near it: it bounds the loop.
 const MOST_TURNS: u64 = 1 << 40;
 
-/// The most turns in a row of a goroutine in a thread that find nothing to do.
+/// The most turns in a row of a goroutine in a thread that find nothing to do. Then its thread ends, so that a deadlock ends the test.
 const MOST_IDLE: u32 = 1 << 14;
 
-/// The most turns of a goroutine in a thread after the end of its run.
+/// The most turns of a goroutine in a thread after the end of its run, in which it may loop without end.
 const MOST_LATE: u32 = 1 << 10;
 
-/// A turn, if the goroutine has not made too many instructions to count those of another.
+/// Gives the goroutine a turn, unless it has made too many instructions to count those of another.
 fn turn<L: Ledger>(
     alloc: Global,
     run: &Run<'_, '_>,
@@ -78,7 +85,8 @@ fn turn<L: Ledger>(
     Some(goroutine.turn(alloc, run, slice, steps))
 }
 
-/// Moves what a goroutine has started and printed to the ends of these lists. Returns how many it has started.
+/// Moves what a goroutine has started and printed to the ends of these lists. Returns how many it has started. After its turn: a goroutine
+/// can retire only when all was taken from it.
 fn collect(
     alloc: Global,
     run: &Run<'_, '_>,
@@ -95,7 +103,8 @@ fn collect(
     goroutine.adopt(alloc, run, born)
 }
 
-/// The goroutine at this place has a turn. What it has printed and started moves to the ends of these lists.
+/// Gives the goroutine at this place a turn. What it has printed and started moves to the ends of these lists. Those that it has started
+/// go to another list, since the goroutine is borrowed from its own.
 fn turn_one<L: Ledger>(
     alloc: Global,
     run: &Run<'_, '_>,
@@ -126,7 +135,7 @@ fn turn_one<L: Ledger>(
     }
 }
 
-/// These come to the end.
+/// Adds goroutines that were started at the end, so that the places of the others stay: tests list turns by place.
 fn join(
     run: &Run<'_, '_>,
     goroutines: &mut Vec<Goroutine>,
@@ -139,7 +148,7 @@ fn join(
     goroutines.append(born)
 }
 
-/// The goroutine at this place has a turn. Those that it has started come to the end.
+/// Gives the goroutine at this place a turn. Those that it has started come to the end.
 fn turn_at<L: Ledger>(
     alloc: Global,
     run: &Run<'_, '_>,
@@ -169,7 +178,8 @@ fn turn_at<L: Ledger>(
     Ok(turned)
 }
 
-/// Whether the run has ended, as the first goroutine finds it. There is none only after `main` has returned.
+/// Whether the run has ended, as the first goroutine finds it. The end is a word of the table, so any goroutine can look. If all have
+/// retired, `main` has returned.
 fn look(run: &Run<'_, '_>, goroutines: &mut [Goroutine]) -> bool
     requires all { All (IsOf run.now) goroutines.old }
     ensures { All (IsOf run.now) goroutines.new }
@@ -180,7 +190,7 @@ fn look(run: &Run<'_, '_>, goroutines: &mut [Goroutine]) -> bool
     goroutines[0].look(run)
 }
 
-/// The goroutine at this place, which is then there no more.
+/// Removes the goroutine at this place and returns it. The order of the others stays.
 fn take(run: &Run<'_, '_>, goroutines: &mut Vec<Goroutine>, place: usize) -> Option<Goroutine>
     requires all { All (IsOf run.now) goroutines.old.items }
     ensures all { All (IsOf run.now) goroutines.new.items }
@@ -192,7 +202,7 @@ fn take(run: &Run<'_, '_>, goroutines: &mut Vec<Goroutine>, place: usize) -> Opt
     Some(goroutines.remove(place))
 }
 
-/// How much longer a goroutine has turns in its thread.
+/// How much longer a goroutine has turns in its thread. A thread decides this alone, by what its own goroutine found.
 #[derive(Drop)]
 struct Patience {
     /// How many turns in a row have found nothing to do.
@@ -202,7 +212,7 @@ struct Patience {
 }
 
 impl Patience {
-    /// Whether the goroutine is to have another turn in its thread, after this one.
+    /// Whether the goroutine has another turn in its thread, after this one. One that lacks room counts as idle: others may free some.
     fn lasts(&mut self, turned: &Turned, is_over: bool) -> bool {
         if is_over {
             self.late = self.late.saturating_add(1);
@@ -218,12 +228,14 @@ impl Patience {
             return self.late < MOST_LATE;
         }
         self.idle = self.idle.saturating_add(1);
+        // The goroutine waits for another one, whose thread may need this processor.
         thread::yield_now();
         !is_over && self.idle < MOST_IDLE
     }
 }
 
-/// A goroutine has turns until it has ended, or finds nothing to do after the end of the run, or has found nothing to do for long.
+/// Gives a goroutine turns until it has ended, or finds nothing to do after the end of the run, or has found nothing to do for long. It
+/// looks before each turn, since another thread may end the run at any time.
 fn turn_counted<L: Ledger>(
     alloc: Global,
     run: &Run<'_, '_>,
@@ -250,7 +262,7 @@ fn turn_counted<L: Ledger>(
     }
 }
 
-/// The same, without counting its accesses to the table.
+/// The same with a ledger of its own, which counts for nobody: threads cannot share one.
 fn turn_on(alloc: Global, run: &Run<'_, '_>, goroutine: &mut Goroutine, slice: u32)
     requires of { IsOf run.now goroutine.old }
     requires pages { TableHasPages run.now }
@@ -259,7 +271,7 @@ fn turn_on(alloc: Global, run: &Run<'_, '_>, goroutine: &mut Goroutine, slice: u
     turn_counted::<Brand>(alloc, run, goroutine, slice, Blank::new(1));
 }
 
-/// Each goroutine has such turns in a thread of its own.
+/// Each goroutine has such turns in a thread of its own. All threads have ended when it returns.
 fn turn_all_on<R: Threads + Sync>(
     rt: &R,
     alloc: Global,
@@ -286,7 +298,8 @@ fn turn_all_on<R: Threads + Sync>(
     );
 }
 
-/// Moves what the goroutines have started and printed to the ends of these lists.
+/// Moves what the goroutines have started and printed to the ends of these lists. After their threads have ended, so that no thread has to
+/// share the lists.
 fn collect_all(
     alloc: Global,
     run: &Run<'_, '_>,
@@ -324,7 +337,8 @@ fn turn_each<R: Threads + Sync>(
     join(run, goroutines, &mut born)
 }
 
-/// A goroutine that has ended, or is to have no turn any more, retires.
+/// Retires a goroutine that has ended, or is to have no more turns. It fails if something was not taken from the goroutine, since that would
+/// be lost.
 fn retire(run: &Run<'_, '_>, seat: &mut RunSeat, goroutine: Goroutine) -> Result<(), CrewError>
     requires of { IsOf run.now goroutine }
     requires own { IsSeatOf seat.old.table_id run.now.table clock_at }
@@ -338,7 +352,7 @@ fn retire(run: &Run<'_, '_>, seat: &mut RunSeat, goroutine: Goroutine) -> Result
 }
 
 impl<'r, 'c> Crew<'r, 'c> {
-    /// That of a run that begins: `main` alone.
+    /// The crew of a run that begins: `main` alone. Its record comes from the driver's seat, so there is no goroutine before this.
     pub fn new(
         alloc: Global,
         run: &'r Run<'r, 'c>,
@@ -360,12 +374,12 @@ impl<'r, 'c> Crew<'r, 'c> {
         })
     }
 
-    /// How many goroutines there are.
+    /// How many goroutines have not retired.
     pub fn len(&self) -> usize {
         self.goroutines.len()
     }
 
-    /// What the goroutines have made and done.
+    /// What the goroutines have made and done that have not retired. `Over` has what the others have.
     pub fn tally(&self) -> Tally {
         let mut tally = Tally::new();
         for goroutine in &self.goroutines {
@@ -374,7 +388,7 @@ impl<'r, 'c> Crew<'r, 'c> {
         tally
     }
 
-    /// Whether the run has ended.
+    /// Whether the run has ended. The answer `true` is final: no goroutine takes its end back.
     pub fn look(&mut self) -> bool
         ensures { self.new ≡ self.old }
     {
@@ -382,7 +396,7 @@ impl<'r, 'c> Crew<'r, 'c> {
         look(run, self.goroutines.as_mut_slice())
     }
 
-    /// The goroutine at this place has a turn. Then what it has printed is gathered, and what it has started is adopted. Returns how
+    /// Gives the goroutine at this place a turn. Then what it has printed is gathered, and what it has started is adopted. Returns how
     /// many it has started, too.
     pub fn turn<L: Ledger>(
         &mut self,
@@ -426,7 +440,7 @@ impl<'r, 'c> Crew<'r, 'c> {
         turn_each(rt, alloc, run, &mut self.goroutines, slice, prints)
     }
 
-    /// The goroutine at this place retires.
+    /// Retires the goroutine at this place. What it has counted is added first, while it has its record.
     pub fn retire(&mut self, place: usize, over: &mut Over) -> Result<(), CrewError>
         ensures { self.new ≡ self.old }
     {
@@ -440,7 +454,7 @@ impl<'r, 'c> Crew<'r, 'c> {
         }
     }
 
-    /// The seat of the driver.
+    /// The seat of the driver, with which the table is closed. The goroutines must have retired: a record that is not at the seat is lost.
     pub fn into_seat(self) -> RunSeat
         ensures { result.table_id ≡ self.entry.table }
     {

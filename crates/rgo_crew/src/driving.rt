@@ -1,4 +1,8 @@
 //! Runs on a table of their own: their goroutines have turns in rounds, turns that are listed, or threads of their own.
+//!
+//! A round in which nothing moved counts as a deadlock here. No clause says that it is one: `rgo_runtime` makes a check for that,
+//! with meetings, which a test of turns does without. All functions run on the driver's thread; `Crew::turn_on` alone has others, and
+//! waits until they have ended.
 ghost use Rattle.std.specs.Prelude.{◌≡◌, ◌+◌, ◌<◌, ◌≤◌, ◌^◌, IfOk};
 ghost use Rattle.std.specs.Mem.Slots.{IsFull, slots_len};
 ghost use Rattle.rgo_core.specs.Memory.Words.{all_words};
@@ -6,7 +10,7 @@ ghost use Rattle.rgo_crew.specs.Overs.{AreTicketsNumbered};
 
 use crate::crew::Crew;
 use crate::errors::CrewError;
-use crate::over::{Ending, Over, Why, are_numbered};
+use crate::over::{CrewEnd, Over, Why, are_numbered};
 use atomic_table::Closed;
 use rgo_core::memory::layout::{TableSizes, count_at, state_at};
 use rgo_core::table::{close, open};
@@ -33,14 +37,14 @@ pub enum Course<'c> {
     Threads { goroutines: usize, slice: u32 },
 }
 
-/// The most rounds of a run.
+/// The most rounds of a run. No test comes near it: it bounds the loop, so that each run ends.
 const MOST_ROUNDS: u64 = 1 << 40;
 
-/// The most rounds of a run after its end.
+/// The most rounds of a run after its end. It is low, since a goroutine may loop without end once `main` has returned.
 const MOST_LATE: u64 = 1 << 10;
 
-/// When a run is over because a goroutine lacks a page or a slot: a test may want to see the lack itself, or what comes once others
-/// have freed some.
+/// When a run is over because a goroutine lacks a page or a slot. A test of rounds wants to see the lack itself. With threads, what a
+/// goroutine lacks depends on who came first, so the test waits until others have freed some.
 #[derive(Clone, Copy, PartialEq, Eq)]
 enum Lack {
     /// At once.
@@ -51,7 +55,7 @@ enum Lack {
 
 /// What a round came to.
 enum RoundEnd {
-    Over(Ending),
+    Over(CrewEnd),
     /// Whether anything may have changed.
     Went(bool),
 }
@@ -62,14 +66,14 @@ struct SoFar {
     /// Whether anything may have changed.
     moved: bool,
     /// What a goroutine lacks that has waited.
-    lacked: Option<Ending>,
+    lacked: Option<CrewEnd>,
 }
 
 impl SoFar {
     /// A turn that has not ended the run. Returns whether the run waits for what the goroutine lacks.
-    fn lacks(&mut self, ending: Ending, lack: Lack) -> bool {
+    fn lacks(&mut self, ending: CrewEnd, lack: Lack) -> bool {
         match ending {
-            Ending::Short(_) if lack == Lack::Waits => {
+            CrewEnd::Short(_) if lack == Lack::Waits => {
                 self.lacked = Some(ending);
                 true
             }
@@ -86,7 +90,7 @@ impl SoFar {
     }
 }
 
-/// One turn of each goroutine. Those that have ended retire, and have their places no more.
+/// Gives each goroutine one turn. Those that have ended retire, and the next one then has their place, so `place` stays.
 fn round<L: Ledger>(
     alloc: Global,
     crew: &mut Crew<'_, '_>,
@@ -117,6 +121,7 @@ fn round<L: Ledger>(
                 crew.retire(place, over)?;
             }
             Why::Lost => {
+                // Another goroutine has locked the channel or changed it, so this one may try again at once: it does not wait.
                 so_far.moved = true;
                 place += 1;
             }
@@ -129,7 +134,7 @@ fn round<L: Ledger>(
     Ok(so_far.end())
 }
 
-/// Rounds until the run is over, at most this many.
+/// Plays rounds until the run is over, at most this many.
 fn rounds<L: Ledger>(
     alloc: Global,
     crew: &mut Crew<'_, '_>,
@@ -137,21 +142,22 @@ fn rounds<L: Ledger>(
     most: u64,
     over: &mut Over,
     steps: &mut Steps<L>,
-) -> Result<Ending, CrewError>
+) -> Result<CrewEnd, CrewError>
     ensures { crew.new ≡ crew.old }
 {
     for _ in 0..most {
         match round(alloc, crew, slice, Lack::Ends, over, steps)? {
             RoundEnd::Over(ending) => return Ok(ending),
             RoundEnd::Went(true) => {}
-            RoundEnd::Went(false) => return Ok(Ending::Deadlock),
+            RoundEnd::Went(false) => return Ok(CrewEnd::Deadlock),
         }
     }
-    Ok(Ending::Unfinished)
+    Ok(CrewEnd::Unfinished)
 }
 
-/// Rounds until the run is over. After those at which there are this many goroutines, each of them has turns in a thread of its
-/// own.
+/// Plays rounds until the run is over. After each round at whose end there are this many goroutines, all have turns in threads of
+/// their own. Rounds come between, since in its thread a goroutine that waits gives up after a while, and only a round finds that no
+/// goroutine can continue.
 fn threaded<R: Threads + Sync, L: Ledger>(
     rt: &R,
     alloc: Global,
@@ -160,26 +166,27 @@ fn threaded<R: Threads + Sync, L: Ledger>(
     goroutines: usize,
     over: &mut Over,
     steps: &mut Steps<L>,
-) -> Result<Ending, CrewError>
+) -> Result<CrewEnd, CrewError>
     ensures { crew.new ≡ crew.old }
 {
     for _ in 0..MOST_ROUNDS {
         match round(alloc, crew, slice, Lack::Waits, over, steps)? {
             RoundEnd::Over(ending) => return Ok(ending),
             RoundEnd::Went(true) => {}
-            RoundEnd::Went(false) => return Ok(Ending::Deadlock),
+            RoundEnd::Went(false) => return Ok(CrewEnd::Deadlock),
         }
         if crew.len() >= goroutines {
             crew.turn_on(rt, alloc, slice, &mut over.prints)?;
+            // After the end, goroutines may loop without end, and in rounds there is a limit to that.
             if crew.look() {
                 return rounds(alloc, crew, slice, MOST_LATE, over, steps);
             }
         }
     }
-    Ok(Ending::Unfinished)
+    Ok(CrewEnd::Unfinished)
 }
 
-/// These turns, one after another.
+/// Plays these turns, one after another, and lists why each was over. The run continues whatever that is: the test has chosen the turns.
 fn turns<L: Ledger>(
     alloc: Global,
     crew: &mut Crew<'_, '_>,
@@ -198,7 +205,7 @@ fn turns<L: Ledger>(
     Ok(())
 }
 
-/// The goroutines have their turns.
+/// Plays the course. Listed turns leave the run unfinished, even if one of them has ended it: `settle` finds its mark.
 fn play<R: Threads + Sync, L: Ledger>(
     rt: &R,
     alloc: Global,
@@ -206,14 +213,14 @@ fn play<R: Threads + Sync, L: Ledger>(
     course: Course<'_>,
     over: &mut Over,
     steps: &mut Steps<L>,
-) -> Result<Ending, CrewError>
+) -> Result<CrewEnd, CrewError>
     ensures { crew.new ≡ crew.old }
 {
     match course {
         Course::Rounds(slice) => rounds(alloc, crew, slice, MOST_ROUNDS, over, steps),
         Course::Turns(list) => {
             turns(alloc, crew, list, over, steps)?;
-            Ok(Ending::Unfinished)
+            Ok(CrewEnd::Unfinished)
         }
         Course::Threads { goroutines, slice } => {
             threaded(rt, alloc, crew, slice, goroutines, over, steps)
@@ -221,7 +228,8 @@ fn play<R: Threads + Sync, L: Ledger>(
     }
 }
 
-/// The goroutines have their turns, and then retire. If `main` has returned, those that are left have turns until none continues.
+/// Plays the course, and then retires all goroutines. If `main` has returned, those that are left have turns until none continues, so
+/// that a test sees what they do after the end; `at_end` is counted before that.
 fn play_out<R: Threads + Sync, L: Ledger>(
     rt: &R,
     alloc: Global,
@@ -237,16 +245,18 @@ fn play_out<R: Threads + Sync, L: Ledger>(
     let steps = &mut Steps::<L>::new(blank);
     over.ending = play(rt, alloc, crew, course, over, steps)?;
     over.at_end = over.tally.and(crew.tally());
-    if over.ending == Ending::Exit {
+    if over.ending == CrewEnd::Exit {
         rounds(alloc, crew, 1000, MOST_LATE, over, steps)?;
     }
+    // The goroutine at place 0 leaves, and the next one takes its place.
     for _ in 0..crew.len() {
         crew.retire(0, over)?;
     }
     Ok(())
 }
 
-/// Fails if a table may not have these sizes.
+/// Fails if a table may not have these sizes. The limits are those of tests, lower than the program's. They imply that the table
+/// has at most 2^32 words, as `open` requires.
 fn limit(sizes: &TableSizes) -> Result<(), CrewError>
     ensures words { IfOk result (λ _. all_words sizes.now ≤ 2 ^ 32) }
     ensures pages { IfOk result (λ _. (0 < sizes.now.pages) × (sizes.now.page_words ≤ 4096)) }
@@ -268,7 +278,7 @@ fn limit(sizes: &TableSizes) -> Result<(), CrewError>
     }
 }
 
-/// How many of `count` words from `from` on are not 0.
+/// How many of `count` words from `from` on are not 0. The table is closed, so no goroutine changes a word while this counts.
 fn filled(closed: &Closed<(), Global>, from: usize, count: usize) -> u64
     requires inside { from + count ≤ slots_len closed.now.words }
     requires small { from + count ≤ 2 ^ 32 }

@@ -1,4 +1,5 @@
-//! Why a run was not driven to its end.
+//! Why a run was not driven to its end. These are errors of the driver or of the test that called it; however a run ends, that is a
+//! `CrewEnd` instead.
 
 ghost use Rattle.std.specs.Prelude.{◌≡◌};
 ghost use Rattle.rgo_crew.specs.declared.errors.CrewError.TheVariants.{NoMemory};
@@ -27,13 +28,13 @@ pub enum CrewError {
     /// A turn of a goroutine that does not exist.
     #[error("no goroutine has this place")]
     NoGoroutine,
-    /// A goroutine has executed too many instructions to have another turn.
+    /// A goroutine has executed too many instructions to have another turn. Its counts would no longer fit.
     #[error("a goroutine has executed too many instructions")]
     StepsSpent,
-    /// A goroutine was to retire before its prints were gathered and the goroutines that it had started were adopted.
+    /// A goroutine was to retire before its prints were gathered and the goroutines that it had started were adopted: they would be lost.
     #[error("a goroutine retires too early")]
     TooEarly,
-    /// The prints that were gathered are not all that the run has made.
+    /// The tickets of the prints are not the numbers from 0 on: a print was lost, or two have the same ticket.
     #[error("a print is missing")]
     NoPrint,
 }

@@ -1,4 +1,8 @@
-//! What a run comes to.
+//! What a run comes to: how it ended, its prints, and what its goroutines have counted. `driving` fills it, and the tests of
+//! `rgo_goroutine` compare all of it.
+//!
+//! Invariant: `tally` and `enders` speak of goroutines that have retired, and of no others. Until `drive` sorts them, `prints` are in
+//! the order in which they were gathered, which need not be that of their tickets. Only the driver's thread has an `Over`.
 ghost use Rattle.std.specs.Prelude.{◌≡◌, ◌++◌, true, IfOk, OnOk};
 ghost use Rattle.rgo_goroutine.specs.Acts.Runs as runs;
 ghost use Rattle.rgo_goroutine.specs.Goroutines.{IsOf, record_of_goroutine};
@@ -14,9 +18,11 @@ use rgo_sound::memory::Trap;
 use rgo_sound::region_machine::Limit;
 use std::alloc::{AllocError, Global};
 
-/// How a run is over.
+/// How a run ended that a test drives. It is not a `RunEnd`, which is the result of a whole run: a test may stop while the run could
+/// continue (`Unfinished`). It also keeps apart the limit that a goroutine has marked (`Limit`) and what a goroutine lacked in its turn
+/// (`Short`), since `RunEnd` reports both as a lack of room. A trap has no place, so that a test need not count columns.
 #[derive(Clone, Copy, Debug, PartialEq, Eq)]
-pub enum Ending {
+pub enum CrewEnd {
     /// It could continue.
     Unfinished,
     /// `main` has returned.
@@ -30,14 +36,14 @@ pub enum Ending {
     NoMemory,
 }
 
-/// Why a turn was over, without words of the table and places of the text.
+/// Why a turn was over. Words of the table and places of the text are left out, so that a test can list what it expects without them.
 #[derive(Clone, Copy, Debug, PartialEq, Eq)]
 pub enum Why {
     Went,
     Blocked,
     Lost,
     Ended,
-    Over(Ending),
+    Over(CrewEnd),
 }
 
 /// What goroutines have made and done.
@@ -58,14 +64,16 @@ pub struct Tally {
 /// What a run has come to.
 #[derive(Drop)]
 pub struct Over {
-    pub ending: Ending,
+    pub ending: CrewEnd,
     /// What was printed. The tickets of a run that is over are the numbers from 0 on, in order.
     pub prints: Vec<Print>,
-    /// The numbers of the goroutines that have set the first end mark, of those that have retired, and how they have ended the run.
-    pub enders: Vec<(u64, Ending)>,
+    /// The numbers of the goroutines that have retired and have set the first end mark, and how they have ended the run. It is a
+    /// list, so that a test would see if two had.
+    pub enders: Vec<(u64, CrewEnd)>,
     /// What all goroutines had made and done when the run was over.
     pub at_end: Tally,
-    /// What those that have retired have made and done, also after the end of the run.
+    /// What those that have retired have made and done, also after the end of the run. Once all have retired, it shows whether each
+    /// page that was taken was returned.
     pub tally: Tally,
     /// Why each listed turn was over, and how many goroutines it has started.
     pub whys: Vec<Why>,
@@ -75,19 +83,20 @@ pub struct Over {
     pub slots: u64,
 }
 
-/// The mark, without the place of a trap.
-fn ending_of(mark: Mark) -> Ending
+/// How a mark ends the run. It leaves out the place of a trap.
+fn crew_end_of(mark: Mark) -> CrewEnd
     ensures { result ≡ crew_end_of mark }
 {
     match mark {
-        Mark::Ended(End::Exit) => Ending::Exit,
-        Mark::Ended(End::Trap(trap, _)) => Ending::Trap(trap),
-        Mark::Stopped(limit) => Ending::Limit(limit),
+        Mark::Ended(End::Exit) => CrewEnd::Exit,
+        Mark::Ended(End::Trap(trap, _)) => CrewEnd::Trap(trap),
+        Mark::Stopped(limit) => CrewEnd::Limit(limit),
     }
 }
 
 impl Why {
-    /// That of this stop.
+    /// The reason without words and places. There is no arm for all others, so that a new reason of `rgo_goroutine` has to be considered
+    /// here.
     pub fn of(stop: TableTurnEnd) -> Why
         ensures { result ≡ why_of stop }
     {
@@ -96,15 +105,15 @@ impl Why {
             TableTurnEnd::Blocked { .. } => Why::Blocked,
             TableTurnEnd::Lost { .. } => Why::Lost,
             TableTurnEnd::Ended => Why::Ended,
-            TableTurnEnd::Stopped(mark) => Why::Over(ending_of(mark)),
-            TableTurnEnd::Short(shortage) => Why::Over(Ending::Short(shortage)),
-            TableTurnEnd::NoMemory => Why::Over(Ending::NoMemory),
+            TableTurnEnd::Stopped(mark) => Why::Over(crew_end_of(mark)),
+            TableTurnEnd::Short(shortage) => Why::Over(CrewEnd::Short(shortage)),
+            TableTurnEnd::NoMemory => Why::Over(CrewEnd::NoMemory),
         }
     }
 }
 
 impl Tally {
-    /// That of no goroutine.
+    /// The tally of no goroutine, from which sums begin.
     pub fn new() -> Tally
         ensures { result ≡ no_tally }
     {
@@ -134,7 +143,7 @@ impl Tally {
         }
     }
 
-    /// This and another one. The numbers wrap.
+    /// The sum of two tallies. The numbers wrap, since no clause bounds what a goroutine has counted; those of a test are small.
     pub fn and(self, other: Tally) -> Tally
         ensures { result ≡ tally_sum self other }
     {
@@ -150,7 +159,8 @@ impl Tally {
     }
 }
 
-/// Whether the tickets of these prints are the numbers from 0 on, in order.
+/// Whether the tickets of these prints are the numbers from 0 on, in order. If they are not, a print was lost, or two have drawn the
+/// same ticket.
 pub(crate) fn are_numbered(prints: &[Print]) -> bool
     ensures { result ≡ true → AreTicketsNumbered prints.now }
 {
@@ -163,10 +173,10 @@ pub(crate) fn are_numbered(prints: &[Print]) -> bool
 }
 
 impl Over {
-    /// Nothing has happened yet.
+    /// What a run comes to in which nothing has happened yet.
     pub(crate) fn new(alloc: Global) -> Over {
         Over {
-            ending: Ending::Unfinished,
+            ending: CrewEnd::Unfinished,
             prints: Vec::new(alloc),
             enders: Vec::new(alloc),
             at_end: Tally::new(),
@@ -178,11 +188,11 @@ impl Over {
         }
     }
 
-    /// A goroutine retires.
+    /// Adds what a goroutine has counted. Called once for each, just before it retires: afterwards its record is at the driver's seat.
     ///
     /// # Errors
     ///
-    /// On allocation failure.
+    /// On allocation failure. Then nothing is added.
     pub fn count(&mut self, goroutine: &Goroutine) -> Result<(), AllocError>
         ensures tally { (r : runs.Run) → IsOf r goroutine.now
             → OnOk result (self.new.tally ≡ tally_sum self.old.tally (tally_of (record_of_goroutine r.setup goroutine.now).clock.share)) }
@@ -190,13 +200,14 @@ impl Over {
         ensures prints { self.new.prints.items ≡ self.old.prints.items }
     {
         if let Some(mark) = goroutine.first() {
-            self.enders.push((goroutine.number(), ending_of(mark)))?;
+            self.enders.push((goroutine.number(), crew_end_of(mark)))?;
         }
         self.tally = self.tally.and(Tally::of(goroutine.tally()));
         Ok(())
     }
 
-    /// How the run is over: as a goroutine has ended it, if one has.
+    /// Settles how the run ended, after all goroutines have retired. A mark that a goroutine has set goes before what the driver saw: with
+    /// threads, the driver sees only that the run has ended, and the mark is in the record of a goroutine.
     pub(crate) fn settle(&mut self) {
         if let Some((_, ending)) = self.enders.first() {
             self.ending = *ending;

@@ -1,4 +1,5 @@
--- What a driver has when all goroutines have left and the table is closed.
+-- What a driver has when all goroutines have left and the table is closed. A close lists the records by number (`numbered_rows e.recs`); the
+-- driver has those of its seat, in the order in which goroutines left. The laws here say that these are the same goroutines.
 use lib.ListN.{get_elem?}
 use mathlib.Core.Option.{some}
 use Rattle.std.specs.Prelude.{◌≡◌, ◌≤◌, ℕ, true, List, [], ◌∷◌, ◌++◌, Option, None, length, map, ⊤}
@@ -37,13 +38,13 @@ use Rattle.rgo_runtime.specs.declared.retiring.Left.{Left}
 abbrev pub AreInOrder : List Drawn → Type 0
 AreInOrder given = (i : ℕ) (d : Drawn) → get_elem? given i ≡ some d → d.ticket ≡ i
 
--- prints have gone out in order, and the next one is none of those that wait
+-- Prints have gone out in order, and none of those that wait is the next one. So if no print was lost, none waits: tickets have no gap.
 pub record AreInTurn (given waiting : List Drawn) : Type 0 where
   pub turns : AreInOrder given
   pub next : (d : Drawn) → IsDrawnIn waiting d → d.ticket ≡ length given → ⊥
 
 -- The rows of a closed table, the prints that have gone out, the sum of the shares, and how the run was ended: they are of all goroutines.
--- Where memory was refused, there may be prints that have not gone out.
+-- If memory was refused, there may be prints that have not gone out.
 pub record ClosesWith (T : Setup) (words : List ℕ) (v : View Record) (e : ClosesTable T words v) (shares : List Counts) (first : Option Mark)
     (given : List Drawn) : Type 0 where
   pub all : AreAll v (numbered_rows e.recs)
@@ -51,13 +52,13 @@ pub record ClosesWith (T : Setup) (words : List ℕ) (v : View Record) (e : Clos
   pub is_first : IsFirst (numbered_rows e.recs) first
   pub sum : sum_of shares ≡ all_shares (numbered_rows e.recs)
 
--- Where nobody is lost, the seat of the driver has them.
+-- If nobody is lost, the seat of the driver has the records of all. This holds even if memory was refused.
 abbrev pub ClosesAnyway : Type 0
 ClosesAnyway = (T : Setup) (words : List ℕ) (v : View Record) (e : ClosesTable T words v) (shares : List Counts) (first : Option Mark)
     (given waiting : List Drawn) → NobodyIsLost (map retired v.records) (given ++ waiting) → AreInOrder given
     → AreRetired v.records shares first → ClosesWith T words v e shares first given
 
--- Where no print is lost either, all prints have gone out.
+-- If no print is lost either, all prints have gone out.
 abbrev pub ClosesWhole : Type 0
 ClosesWhole = (T : Setup) (words : List ℕ) (v : View Record) (e : ClosesTable T words v) (shares : List Counts) (first : Option Mark)
     (given waiting : List Drawn) → NoneIsLost (map retired v.records) (given ++ waiting) → AreInTurn given waiting
@@ -65,7 +66,8 @@ ClosesWhole = (T : Setup) (words : List ℕ) (v : View Record) (e : ClosesTable 
 
 -- ---- what follows from a pass
 
--- how the run of a closed table has ended, by what the last pass of its goroutines has come to
+-- How the run of a closed table has ended, by what the last pass of its goroutines has come to. `Moved` says nothing: a run does not end
+-- for that.
 abbrev pub PassReports : (T : Setup) (words : List ℕ) (v : View Record) → ClosesTable T words v → Passed → Type 0
 PassReports T words v e Moved = ⊤
 PassReports T words v e Still = IsDeadlock (tac (erased T.code)) (last_state e).plain

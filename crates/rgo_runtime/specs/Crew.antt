@@ -1,4 +1,5 @@
--- The goroutines of a run, as their driver keeps them.
+-- The goroutines of a run, as their driver keeps them. Each is in one of four lists; a step of the driver moves goroutines between them,
+-- and `KeepsAll` says that none and no print is lost on the way.
 use Rattle.std.specs.List.{All}
 use Rattle.std.specs.Prelude.{◌≡◌, ℕ, List, [], ◌∷◌, ◌++◌, IsPermutation, Option, None, length, map}
 use Rattle.atomic_table.specs.Seated.{TableId}
@@ -37,7 +38,8 @@ pub record Crew : Type 0 where
   pub shares : List Counts
   pub first : Option Mark
 
--- all goroutines of the run are of it, and what is known of those that have retired is so
+-- The invariant of a crew: all goroutines are of the run, and what is said of those that have retired is so. `over` is needed for a check
+-- for a deadlock, which asks nothing of them: they must have ended.
 pub record IsRunCrew (c : Crew) : Type 0 where
   pub seat : IsSeatOf c.table c.run.table clock_at
   pub pages : TableHasPages c.run
@@ -47,15 +49,16 @@ pub record IsRunCrew (c : Crew) : Type 0 where
   pub retired : AreRetired c.me.0.records c.shares (end_mark c.first)
   pub over : (g : ℕ) (its : Record) → HasRow c.me.0.records g its → HasFinished its
 
--- all of them
+-- All goroutines, as members. `NoneIsLost` does not depend on the order, so a goroutine may change its list.
 abbrev pub crew_members : Crew → List Member
 crew_members c = turning c.ready ++ (turning (parked_values c.parked) ++ (members c.run.setup c.born ++ map retired c.me.0.records))
 
--- nobody was lost, and no print
+-- Nobody was lost, and no print, by a step of the driver. It is transitive: a round is proved from its parts.
 abbrev pub KeepsAll : (old new : Crew) → Type 0
 KeepsAll old new = DriverKeeps (crew_members old) (drawn old.waiting) (crew_members new) (drawn new.waiting)
 
--- Those that had not retired have had a pass. Only they and the seat of the driver have changed.
+-- Those that had not retired have had a pass. Only they and the seat of the driver have changed. `before` and `after` are in the order of
+-- the pass, which need not be that of the run queue.
 pub record HasPassedAll (old new : Crew) (passed : Passed) : Type 0 where
   pub before : List Goroutine
   pub after : List Goroutine
@@ -79,7 +82,7 @@ pub record WholeCrewExamples : Type 0 where
       → c.born ≡ [] → c.me.0.records ≡ [] → (old : Crew) → crew_members old ≡ member_of c.run.setup go ∷ [] → old.waiting ≡ c.waiting
       → KeepsAll old c → ⊥
   pub all_passed : (c : Crew) (passed : Passed) → c.ready ≡ [] → IsPass c.run c.me [] [] passed → HasPassedAll c c passed
-  -- one that was ready had no part in it
+  -- one that was ready took no part in it
   pub left_out : (old new : Crew) (t : Turn) (passed : Passed) (k : HasPassedAll old new passed) → old.ready ≡ t ∷ [] → k.before ≡ [] → ⊥
   -- it has taken one that was ready away
   pub gone : (old new : Crew) (t : Turn) (passed : Passed) → old.ready ≡ t ∷ [] → new.ready ≡ [] → HasPassedAll old new passed → ⊥

@@ -1,4 +1,5 @@
--- What a driver keeps of the goroutines of a run, and that it loses nobody and nothing.
+-- What a driver keeps of the goroutines of a run, and that it loses nobody and nothing. A driver has many parts, each of which sees a few
+-- goroutines; so a part is said to keep what it sees, whatever else there is.
 use Rattle.std.specs.List.{AllZip}
 use Rattle.std.specs.Option.{option_map}
 use Rattle.std.specs.Prelude.{◌≡◌, ◌⊎◌, ◌<◌, ◌≤◌, ℕ, Bool, false, List, [], ◌∷◌, ◌++◌, Option, Some, None, length, map, slice_get}
@@ -26,7 +27,7 @@ use Rattle.rgo_runtime.specs.Turns.{TurnIsTaken, Turn}
 
 -- ---- members
 
--- a goroutine as its driver follows it
+-- A goroutine as its driver follows it: its record, and what was not taken from it yet, which are prints and children.
 abbrev pub member_of : Setup → Goroutine → Member
 member_of T go = record { number = go.number; its = record_of_goroutine T go; fresh = ungathered_prints go; unborn = numbers go.children.items }
 
@@ -63,7 +64,7 @@ its_member t = member_of t.run.setup t.goroutine
 abbrev pub its_goroutine : Turn → Goroutine
 its_goroutine t = t.goroutine
 
--- of this run and at rest, and with few enough instructions for a turn
+-- Of this run and at rest, and with few enough instructions for a turn. It is `CanTurn` for a goroutine that has no time slice yet.
 pub record MayTurn (r : Run) (go : Goroutine) : Type 0 where
   pub of : IsOf r go
   pub tidy : IsTidy (record_of_goroutine r.setup go)
@@ -72,11 +73,11 @@ pub record MayTurn (r : Run) (go : Goroutine) : Type 0 where
 abbrev pub turning : List Turn → List Member
 turning ts = map its_member ts
 
--- it is of this run, and its number has a place among n shares
+-- It is of this run, and its number has a place among n shares, so that it can retire without memory.
 pub record IsOfCrew (r : Run) (n : ℕ) (t : Turn) : Type 0 where
   pub run : t.run ≡ r
   pub place : t.goroutine.number < n
-  -- what its last turn says is so
+  -- if its last turn says that it has ended, so it has: the driver retires it by what the turn says
   pub ended : (turned : Turned) → t.turned ≡ Some turned → turned.stop ≡ Ended → HasFinished (record_of_goroutine r.setup t.goroutine)
 
 -- the same turn, which may execute up to `slice` instructions
@@ -91,7 +92,7 @@ pub record HaveTurned (slice : ℕ) (before : List Turn) : Type 0 where
   pub gives : AllZip (IsGivenSlice slice) before given
   pub turned : RoundOf TurnIsTaken given after went
 
--- one that was started, and has had no turn
+-- One that was started, and has had no turn. It has counted nothing, so it needs no place among the shares.
 pub record IsNewborn (r : Run) (go : Goroutine) : Type 0 where
   pub of : IsOf r go
   pub tidy : IsTidy (record_of_goroutine r.setup go)
@@ -101,12 +102,12 @@ pub record IsNewborn (r : Run) (go : Goroutine) : Type 0 where
 
 -- ---- goroutines that have retired
 
--- the end mark that a goroutine says that it has set
+-- the end mark that a goroutine reports to have set, as the definitions of a run write it
 abbrev pub end_mark : Option clock.Mark → Option Mark
 end_mark first = option_map mark_of first
 
 -- What a driver has of them: none has anything under way; who has ended the run is known; and what each has counted is at the place of its
--- number, unless it has counted nothing and has no place.
+-- number, unless it has counted nothing and has no place. `others` is the converse, without which a sum over the places could be too large.
 pub record AreRetired (rows : Rows Record) (shares : List Counts) (first : Option Mark) : Type 0 where
   pub tidy : (g : ℕ) (c : Record) → HasRow rows g c → IsTidy c
   pub is_first : IsFirst rows first

@@ -2,6 +2,7 @@ pub mod Boxes
 pub mod Closing
 pub mod Crew
 pub mod Crews
+pub mod CrewView
 pub mod Leaving
 pub mod Parking
 pub mod Passing

@@ -1,4 +1,5 @@
--- Parking: values that are parked at addresses, seen as a list of pairs of an address and a value.
+-- Values that are parked at addresses, seen as a list of pairs of an address and a value. Groups that are empty have no pairs: whether the
+-- code keeps them is not visible.
 use Rattle.std.specs.Prelude.{◌≡◌, ◌==◌, ℕ, List, [], ◌∷◌, ◌++◌, IsPermutation, filter, map, not, Vec}
 
 module _ {T : Type 0} where
@@ -19,7 +20,8 @@ module _ {T : Type 0} where
   abbrev pub elsewhere : ℕ → List (ℕ × T) → List (ℕ × T)
   elsewhere at parked = filter (λ p. not (at == p.0)) parked
 
-  -- all values that are parked have come to the end of a list, in some order
+  -- All values that are parked have come to the end of a list, in some order. Which one is left open, since the run queue has none that
+  -- matters.
   abbrev pub TakesAll : List (ℕ × T) → List T → List T → Type 0
   TakesAll parked old new = (more : List T) × (new ≡ old ++ more) × IsPermutation (parked_values parked) more
 

@@ -1,4 +1,5 @@
--- Passes: what a driver knows of its goroutines after all have met it, after all have looked, and after all have had a turn.
+-- What a driver knows of its goroutines after all have met it, after all have looked, and after all have had a turn: a pass. Each goroutine
+-- has found something at another moment, and a deadlock is a fact of one moment; so the definitions follow how much the driver has seen.
 use Rattle.std.specs.List.{All, AllZip, Contains}
 use Rattle.std.specs.Prelude.{◌≡◌, ◌⊎◌, ◌<◌, ◌≤◌, ◌^◌, ◌++◌, ◌∷◌, ℕ, Bool, true, false, List, [], Option, Some, None, length, ⊤}
 use Rattle.rgo_core.specs.Core.{Setup}
@@ -25,7 +26,7 @@ use Rattle.rgo_runtime.specs.declared.deadlock.Passed.TheVariants.{Lacks, Moved,
 abbrev pub seen_by : Goroutine → List Access
 seen_by go = go.actor.seat.me.0.seen
 
--- it has not seen more accesses than these
+-- It has not seen more accesses than these. By length, since what one has seen is always a front of what another has seen.
 abbrev pub IsBehind : List Access → Goroutine → Type 0
 IsBehind seen go = length (seen_by go) ≤ length seen
 
@@ -99,12 +100,12 @@ TurnComesTo turned Moved = (lack : Option Shortage) → IsStuck turned lack → 
 TurnComesTo turned Still = IsStuck turned None
 TurnComesTo turned (Lacks why) = IsStuck turned (Some why)
 
--- It had no turn, since it has made too many instructions to count another.
+-- It had no turn, since it has made too many instructions to count another. No run comes to that, but no clause of a crew says so.
 pub record HasNoTurn (r : Run) (old new : Goroutine) : Type 0 where
   pub same : new ≡ old
   pub many : 2 ^ 42 < steps_of (record_of_goroutine r.setup old)
 
--- Its turn has come to this. If it had no turn, that counts as moved.
+-- Its turn has come to this. If it had no turn, that counts as moved, since it is not known to be blocked.
 abbrev pub TurnHasComeTo : Run → Passed → (old new : Goroutine) → Type 0
 TurnHasComeTo r Moved old new = HasNoTurn r old new ⊎ ((turned : Turned) × HasTurnedOnce r old new turned × TurnComesTo turned Moved)
 TurnHasComeTo r Still old new = (turned : Turned) × HasTurnedOnce r old new turned × TurnComesTo turned Still
@@ -130,10 +131,11 @@ pub record TurnsBetween (r : Run) (before after : List Access) (old new : Gorout
   pub behind : IsBehind after new
   pub known : IsKnownBy r.setup before old → IsKnownBy r.setup after new
   pub tidy : IsTidyIn r.setup old → IsTidyIn r.setup new
-  -- whether it has passed, in a pass that began when the driver had seen `start`
+  -- Whether it has passed, in a pass that began when the driver had seen `start`. For every `start`, since the turn does not know when
+  -- the pass began.
   pub passes : (start front : List Access) → before ≡ start ++ front → IsKnownBy r.setup start old → HasPassedBy r.setup start after new passed
 
--- what the goroutines lack, by what the pass has come to
+-- What the goroutines lack, by what the pass has come to. With `Lacks`, one of them lacks this; others may lack something else.
 abbrev pub AreLacks : Passed → List (Option Shortage) → Type 0
 AreLacks Moved lacks = ⊥
 AreLacks Still lacks = All (λ lack. lack ≡ None) lacks
@@ -146,7 +148,7 @@ pub record AllStoodStill (r : Run) (before seen : List Access) (old new : List G
   pub passes : AllZip (HasPassedWith r.setup before seen) new lacks
   pub are : AreLacks passed lacks
 
--- the turn of one of the goroutines has moved
+-- The turn of one of the goroutines has moved. It says little: the run continues, and the next rounds will show.
 pub record OneMoved (r : Run) (old new : List Goroutine) : Type 0 where
   pub was : Goroutine
   pub is : Goroutine
@@ -173,7 +175,7 @@ pub record IsPass (r : Run) (me : Me Record) (old new : List Goroutine) (passed 
   pub since : List Access
   pub is : me.0.seen ≡ before ++ since
   pub come : PassComesTo r before me.0.seen looked new passed
-  -- of those that had retired, all accesses were known when all had looked
+  -- all accesses of those that had retired were known when all had looked, so none of them can come later
   pub retired : (g : ℕ) (its : Record) → HasRow me.0.records g its → AccessesAreKnown before g (accesses its)
 
 -- ---- examples

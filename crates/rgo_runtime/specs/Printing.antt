@@ -1,8 +1,15 @@
--- Printing: prints that wait for their turn, and those that have gone out in the order of their tickets.
+-- Prints that wait for their turn, and those that have gone out in the order of their tickets. A ticket is drawn at the table at the moment
+-- of the print, so that the order of tickets is that of the prints in the run.
 use Rattle.std.specs.Prelude.{◌≡◌, ◌+◌, ℕ, List, [], ◌∷◌, ◌++◌, All, Contains, IsPermutation, Option, Some, length, take, ⊤}
 use Rattle.std.specs.Io.KnownBytes.{Appends}
 use Rattle.rgo_outside.specs.Pieces.{IsEndOf}
 use Rattle.rgo_table_runs.specs.Goroutine.Acts.declared.prints.Print.{Print}
+
+-- A queue of prints: those that wait, and the first ticket whose print has not gone out. The order of those that wait is not fixed: a flush
+-- sorts them.
+pub record WaitingPrints : Type 0 where
+  pub waiting : List Print
+  pub next : ℕ
 
 abbrev pub ticket_of : Print → ℕ
 ticket_of print = print.ticket
@@ -17,7 +24,8 @@ abbrev pub bytes_of_prints : List Print → List ℕ
 bytes_of_prints [] = []
 bytes_of_prints (print ∷ prints) = print.bytes.items ++ bytes_of_prints prints
 
--- Of the prints that waited, those with this ticket and the following ones have gone out in order. None of the others is the next.
+-- The prints that waited with this ticket and the following ones have gone out in order. `none` is why a flush need not be repeated: no
+-- print that still waits has the next ticket.
 pub record GivesOut
     (old : List Print) (from : ℕ) (new : List Print) (next : ℕ) (before now : Option (List ℕ))
     : Type 0 where
@@ -28,7 +36,8 @@ pub record GivesOut
   pub none : All (λ print. print.ticket ≡ next → ⊥) new
   pub out : Appends before now (bytes_of_prints given)
 
--- The first bytes of such prints have gone out, some or all.
+-- A write failed: the first bytes of such prints have gone out, some or all. More is not known, since a sink may have taken a part of what
+-- was written.
 pub record GivesSome (old : List Print) (from : ℕ) (before now : Option (List ℕ)) : Type 0 where
   pub given : List Print
   pub turns : AreFrom from given
@@ -37,7 +46,7 @@ pub record GivesSome (old : List Print) (from : ℕ) (before now : Option (List 
   pub count : ℕ
   pub out : Appends before now (take count (bytes_of_prints given))
 
--- the piece is an end of the bytes of one of these prints
+-- The piece is an end of the bytes of one of these prints: a write that the sink took in parts is repeated with the rest.
 abbrev pub IsPieceOf : List Print → List ℕ → Type 0
 IsPieceOf prints piece = (print : Print) × Contains prints print × IsEndOf print.bytes.items piece
 

@@ -1,4 +1,4 @@
--- What a driver knows while it plays, and why it ends a run.
+-- What a driver knows from round to round, and why it ends a run.
 use Rattle.std.specs.Io.KnownBytes.{Appends}
 use Rattle.std.specs.Prelude.{◌≡◌, ℕ, ◌+◌, ◌*◌, Bool, false, true, cond, ◌&&◌, nat_le, nat_lt, List, [], ◌∷◌, ◌++◌, Option, None, Some, length, ⊤}
 use Rattle.rgo_core.specs.Memory.declared.layout.TableSizes.{TableSizes}
@@ -35,30 +35,33 @@ sizes_with sizes variables = record {
   variables = variables;
 }
 
--- These prints have gone out since the sink held `old`, whole and in order; the others wait, and none is lost.
+-- These prints have gone out since the sink held `old`, whole and in order; the others wait, and none is lost. This is the invariant
+-- between rounds; `next` lets a flush continue where the last one stopped.
 pub record HasGiven (c : Crew) (given : List Drawn) (old now : Option (List ℕ)) : Type 0 where
   pub none_lost : NoneIsLost (crew_members c) (given ++ drawn c.waiting)
   pub turns : AreInOrder given
   pub next : c.next ≡ length given
   pub out : Appends old now (bytes_of given)
 
--- Of these prints, which come in order, the first bytes have gone out, some or all. None of them and of the rest is lost.
+-- The first bytes of these prints, which come in order, have gone out, some or all. None of them and of the rest is lost. It is what is
+-- left of `HasGiven` after a failed write, after which nothing more is written.
 pub record HasGivenSome (c : Crew) (given : List Drawn) (old now : Option (List ℕ)) : Type 0 where
   pub rest : List Drawn
   pub none_lost : NoneIsLost (crew_members c) (given ++ rest)
   pub turns : AreInOrder given
   pub out : AppendsSome old now (bytes_of given)
 
--- whatever had gone out before, all is well after it
+-- Whatever had gone out before, the invariant holds after it. It is a statement on every past, so that steps can be composed.
 abbrev pub CrewContinues : (before : Crew) (was : Option (List ℕ)) (after : Crew) (now : Option (List ℕ)) → Type 0
 CrewContinues before was after now = (old : Option (List ℕ)) (given : List Drawn) → HasGiven before given old was
     → (more : List Drawn) × HasGiven after more old now
 
--- no print that waits could go out
+-- No print that waits could go out. True just after a flush; at the end of a run it implies, with `NoneIsLost`, that all prints have gone
+-- out.
 abbrev pub NoneIsNext : Crew → Type 0
 NoneIsNext c = (d : Drawn) → IsDrawnIn (drawn c.waiting) d → d.ticket ≡ c.next → ⊥
 
--- what the driver knows when it ends a run for this reason
+-- What the driver knows when it ends a run for this reason. Want of memory and a failed write need nothing: their ends claim nothing more.
 abbrev pub DriverKnows : Crew → Why → Type 0
 DriverKnows c Memory = ⊤
 DriverKnows c Write = ⊤
@@ -66,7 +69,7 @@ DriverKnows c Over = NoneIsNext c
 DriverKnows c Steps = NoneIsNext c
 DriverKnows c (Stuck passed) = NoneIsNext c × (before : Crew) × HasPassedAll before c passed × (c.parked ≡ []) × (c.born ≡ [])
 
--- whatever had gone out before, the run has ended well for this reason
+-- Whatever had gone out before, the run has ended for this reason, and the driver knows what the reason needs.
 abbrev pub EndsFor : Why → (before : Crew) (was : Option (List ℕ)) (after : Crew) (now : Option (List ℕ)) → Type 0
 EndsFor Write before was after now = (old : Option (List ℕ)) (given : List Drawn) → HasGiven before given old was
     → (more : List Drawn) × HasGivenSome after more old now
@@ -75,7 +78,8 @@ EndsFor Over before was after now = CrewContinues before was after now × Driver
 EndsFor Steps before was after now = CrewContinues before was after now × DriverKnows after Steps
 EndsFor (Stuck passed) before was after now = CrewContinues before was after now × DriverKnows after (Stuck passed)
 
--- a write failed exactly if this is so, by the faults of the sink before and now, and nothing was written after it
+-- A write failed exactly if this is so, by the faults of the sink before and now, and nothing was written after it. `held` is the other
+-- direction: a run that does not report a fault has met none.
 pub record FailsIf (is_so : Type 0) (before now : ℕ) (is_broken : Bool) : Type 0 where
   pub fault : is_so → Rose before now
   pub broken : is_so → is_broken ≡ true
@@ -86,7 +90,7 @@ abbrev pub is_spent : (made : Counts) (most : ℕ) → Bool
 is_spent made most = nat_le most made.steps && nat_lt made.steps (most + 1000 * made.goroutines)
 
 -- How a run has ended that no goroutine has ended, by why its driver ended it, by what it has made, and by the instructions that may be
--- executed. The other cases do not arise.
+-- executed. The other cases do not arise, and no proof needs that: they end for want of memory, which claims nothing.
 abbrev pub unmarked_end : Why → (made : Counts) → (most : ℕ) → RunEnd
 unmarked_end (Stuck Still) made most = run_end.Deadlock
 unmarked_end (Stuck (Lacks why)) made most = run_end.NoRoom why

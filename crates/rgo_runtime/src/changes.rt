@@ -22,11 +22,13 @@ impl Changes {
         }
     }
 
+    /// Removes the words of the round before. The list keeps its memory, so that most rounds need no other.
     pub fn clear(&mut self) {
         self.words.clear();
     }
 
-    /// Adds those of a turn, each once. A turn lists a word more than once if it has done so without an instruction.
+    /// Adds the words of a turn, each once. A turn can list a word more than once, if it changed it without an instruction; added
+    /// twice, it would look like a word of two turns.
     ///
     /// # Errors
     ///
@@ -42,24 +44,25 @@ impl Changes {
         Ok(())
     }
 
-    /// Sorts the words. After those of all turns were added.
+    /// Sorts the words, so that `are_by_others` can search. After those of all turns were added: a word that comes later is not found.
     pub fn sort(&mut self) {
         self.words.sort_unstable();
     }
 
+    /// The words, some of them more than once. To wake those at a word a second time does nothing.
     pub fn words(&self) -> &[u32] {
         self.words.as_slice()
     }
 
-    /// Whether another turn than this one has changed a word. After `sort`.
+    /// Whether a turn other than this one has changed a word. After `sort`.
     pub fn are_by_others(&self, turned: &Turned, at: usize) -> bool {
         let Ok(word) = u32::try_from(at) else {
-            // Cannot be: a goroutine waits at a word of the table, of which there are at most 2^32, or at none.
+            // Cannot be for a word of the table, of which there are at most 2^32. `NOWHERE` is not a word, and nobody changes it.
             return false;
         };
         match self.words.as_slice().binary_search(&word) {
             Ok(place) => {
-                // If this turn has changed the word, it is in the list once for it: another one beside it is of another turn.
+                // If this turn has changed the word, the list has the word once for it. So a second one beside it comes from another turn.
                 !turned.changed.channels().contains(&word)
                     || self.has_at(place.wrapping_add(1), word)
                     || self.has_at(place.wrapping_sub(1), word)
@@ -68,6 +71,7 @@ impl Changes {
         }
     }
 
+    /// Whether the list has the word at this place. A place that has wrapped is beyond the end, and has none.
     fn has_at(&self, place: usize, word: u32) -> bool {
         self.words.get(place) == Some(&word)
     }

@@ -52,7 +52,7 @@ use std::alloc::{AllocError, AllocFailed, Global};
 use std::marker::Model;
 use std::thread::Threads;
 
-/// Goroutines that wait at a nil channel are parked here. No word has this address, so only a check for a deadlock wakes them.
+/// Goroutines that wait at a nil channel are parked here. No word has this address, so `wake` never finds them: only `wake_all` does.
 const NOWHERE: usize = usize::MAX;
 
 /// The goroutines of a run, and the seat of their driver. `born` is empty between rounds, unless memory was refused.
@@ -74,31 +74,11 @@ impl<'r, 'c> Model for Crew<'r, 'c> {
 
     ghost Value = { spec.Crew };
 
-    ghost view = { λ c. record {
-      run = c.run.now;
-      table = c.seat.table_id;
-      me = c.seat.me;
-      ready = c.ready.items;
-      parked = c.parked;
-      born = c.born.items;
-      waiting = c.prints.waiting.items;
-      next = c.prints.next;
-      shares = c.shares;
-      first = c.first;
-    } };
+    ghost use Rattle.rgo_runtime.specs.CrewView.{crew_view};
 
-    ghost invariant = { λ c. spec.IsRunCrew (record {
-      run = c.run.now;
-      table = c.seat.table_id;
-      me = c.seat.me;
-      ready = c.ready.items;
-      parked = c.parked;
-      born = c.born.items;
-      waiting = c.prints.waiting.items;
-      next = c.prints.next;
-      shares = c.shares;
-      first = c.first;
-    }) };
+    ghost view = { crew_view };
+
+    ghost invariant = { λ c. spec.IsRunCrew (crew_view c) };
 }
 
 /// What a round has come to. No clause speaks of it: it decides what is worth doing next, and no result may rest on it.
@@ -164,8 +144,8 @@ fn status_after(turn: &Turn<'_, '_>, changes: &Changes, number: u64) -> Status
     }
 }
 
-/// Takes all goroutines out of the run queue for a check for a deadlock, the last first. The queue keeps its room, so that
-/// `refill_ready` needs no memory.
+/// Takes all goroutines out of the run queue for a check for a deadlock, the last first: a check gives turns of its own, without time
+/// slices. The queue keeps its room, so that `refill_ready` needs no memory.
 ///
 /// # Errors
 ///
@@ -208,7 +188,7 @@ fn refill_ready<'r, 'c>(
     }
 }
 
-/// A goroutine that was started, in a box. It has a place for what it will count.
+/// A goroutine that was started, in a box. It has a place for what it will count, so that it can retire when there is no memory.
 ///
 /// # Errors
 ///
@@ -256,6 +236,7 @@ fn spawn_main(
         Ok(main) => match Box::new(alloc, main) {
             Ok(boxed) => Ok(boxed),
             Err(failed) => {
+                // Its record goes back to the driver's seat, so that no goroutine of the run is lost.
                 failed.value.retire(run, seat);
                 Err(AllocError)
             }
@@ -265,7 +246,7 @@ fn spawn_main(
 }
 
 impl<'r, 'c> Crew<'r, 'c> {
-    /// The length of the run queue.
+    /// The length of the run queue. True until the next round.
     pub fn ready(&self) -> usize
         ensures { result ≡ length self.now.ready }
     {
@@ -306,7 +287,8 @@ impl<'r, 'c> Crew<'r, 'c> {
         round(rt, &mut self.ready, workers, number, gate)
     }
 
-    /// Takes from the goroutines of the run queue what they have printed, and the goroutines that they have started. After their turns.
+    /// Takes from the goroutines of the run queue what they have printed, and the goroutines that they have started. After their turns:
+    /// in a turn only its worker has the goroutine.
     ///
     /// # Errors
     ///
@@ -317,7 +299,7 @@ impl<'r, 'c> Crew<'r, 'c> {
         ensures next { self.new.next ≡ self.old.next }
     {
         for i in 0..self.ready.len() {
-            self.ready[i].collect(&mut self.prints.waiting, &mut self.born)?;
+            self.ready[i].collect(&mut self.prints, &mut self.born)?;
         }
         Ok(())
     }
@@ -333,6 +315,7 @@ impl<'r, 'c> Crew<'r, 'c> {
         let turn = self.ready.swap_remove(place);
         match self.parked.park(at, turn) {
             Ok(()) => {}
+            // There is room: one was taken out just now.
             Err(failed) => self.ready.push_reserved(failed.value),
         }
     }
@@ -391,6 +374,7 @@ impl<'r, 'c> Crew<'r, 'c> {
         ensures next { self.new.next ≡ self.old.next }
     {
         self.ready.reserve(self.born.len())?;
+        // `pop` takes the last: so they come into the queue in the order in which they were started.
         self.born.reverse();
         while let Some(goroutine) = self.born.pop() {
             match box_newborn(self.alloc, goroutine, &mut self.shares) {
@@ -449,7 +433,7 @@ impl<'r, 'c> Crew<'r, 'c> {
         changes.clear();
         let mut summary = RoundSummary {
             moved,
-            all_used: self.prints.waiting.is_empty(),
+            all_used: self.prints.is_empty(),
             steps: 0,
             is_over: false,
             lacks_memory: false,
@@ -562,7 +546,8 @@ impl<'r, 'c> Crew<'r, 'c> {
         Ok(snapshot)
     }
 
-    /// Retires all goroutines, or gives them up. After the run is over.
+    /// Retires all goroutines, or gives them up. After the run is over. It needs no memory. Prints that still
+    /// wait are dropped: an earlier one is missing, or a write has failed, so they may not go out.
     pub fn retire_all(self) -> Left
         ensures left { HaveAllLeft self.entry result }
         ensures crew { spec.IsRunCrew self.entry }
@@ -595,7 +580,7 @@ impl<'r, 'c> Crew<'r, 'c> {
     ///
     /// # Errors
     ///
-    /// Where a write failed.
+    /// If a write failed.
     pub fn flush_prints<K: Sink>(&mut self, out: &mut K) -> Result<(), WriteFault>
         ensures given { OnOk result (GivesOut self.old.waiting self.old.next self.new.waiting self.new.next
             (K.contents out.old) (K.contents out.new)) }
@@ -629,6 +614,7 @@ impl<'r, 'c> Crew<'r, 'c> {
     {
         let mut shares = Shares::new(alloc);
         let mut ready: Vec<Turn<'r, 'c>> = Vec::new(alloc);
+        // All memory is taken first: once `main` has a seat of its own, nothing can fail.
         match shares.make_room(0) {
             Ok(()) => {}
             Err(_) => return Err(seat),

@@ -27,10 +27,12 @@ use std::alloc::Global;
 use std::marker::Brand;
 use std::sync::ledger::{Blank, Ledger};
 
-/// The most instructions of a goroutine that has another turn in a check. It is far below the most that a run can count.
+/// The most instructions of a goroutine that has another turn in a check. It is far below the most that a run can count, so the turn
+/// meets what `Goroutine::turn` requires.
 const MOST_STEPS: u64 = 1 << 42;
 
-/// What the turns of a pass have come to.
+/// What the turns of a pass have come to. There is no variant for a goroutine that has ended or found no memory: such a turn counts as one
+/// that moved, since it does not show that anybody is blocked.
 #[derive(Clone, Copy, Debug, PartialEq, Eq)]
 pub enum Passed {
     /// A goroutine may have changed something, may continue, or has ended.
@@ -41,7 +43,8 @@ pub enum Passed {
     Lacks(Shortage),
 }
 
-/// All goroutines meet their driver, which has then seen at least as many accesses as each of them.
+/// All goroutines meet their driver, which has then seen at least as many accesses as each of them. `look_all` requires that (`behind`):
+/// then a meeting only adds to what the driver has seen.
 pub fn meet_all(run: &Run<'_, '_>, goroutines: &mut [Box<Goroutine>], seat: &mut RunSeat)
     requires all { All (IsOf run.now) (in_boxes goroutines.old) }
     requires own { IsSeatOf seat.old.table_id run.now.table clock_at }
@@ -56,7 +59,8 @@ pub fn meet_all(run: &Run<'_, '_>, goroutines: &mut [Box<Goroutine>], seat: &mut
     }
 }
 
-/// A goroutine looks at the clock, between two meetings with its driver.
+/// A goroutine looks at the clock, between two meetings with its driver. From the first it has what the driver has seen; by the second the
+/// driver learns of the look, and so of all accesses that the goroutine has made before.
 fn look_once(run: &Run<'_, '_>, goroutine: &mut Goroutine, seat: &mut RunSeat)
     requires of { IsOf run.now goroutine.old }
     requires own { IsSeatOf seat.old.table_id run.now.table clock_at }
@@ -71,7 +75,7 @@ fn look_once(run: &Run<'_, '_>, goroutine: &mut Goroutine, seat: &mut RunSeat)
     goroutine.meet(run, seat);
 }
 
-/// After all have met their driver, each looks, between two meetings with it. Then all their accesses are known.
+/// After all have met their driver, each looks, between two meetings with it. Then the driver knows all accesses that they have made.
 pub fn look_all(run: &Run<'_, '_>, goroutines: &mut [Box<Goroutine>], seat: &mut RunSeat)
     requires all { All (IsOf run.now) (in_boxes goroutines.old) }
     requires own { IsSeatOf seat.old.table_id run.now.table clock_at }
@@ -108,7 +112,8 @@ impl Passed {
         }
     }
 
-    /// What turns have come to, with one more.
+    /// What turns have come to, with one more. A lack goes before `Still`, since with room that goroutine could continue. Of two lacks the
+    /// later one is reported; each is true.
     fn and(self, next: Passed) -> Passed
         ensures { result ≡ joined_with self next }
     {
@@ -129,7 +134,8 @@ impl Passed {
     }
 }
 
-/// A goroutine that has not seen more than its driver has a turn of one instruction, between two meetings with it.
+/// A goroutine that has not seen more than its driver has a turn of one instruction, between two meetings with it. One is enough: if it can
+/// execute one, the run continues.
 fn step_once<L: Ledger>(
     alloc: Global,
     run: &Run<'_, '_>,
@@ -147,7 +153,8 @@ fn step_once<L: Ledger>(
     ensures turns { TurnsBetween run.now seat.old.me.0.seen seat.new.me.0.seen goroutine.old goroutine.new result }
 {
     if goroutine.tally().steps > MOST_STEPS {
-        // Cannot be in a run of the program: its limit is at most 2^42 instructions, and it was tested after the round.
+        // Cannot be in a run of the program: its limit is at most 2^42 instructions, and it was tested after the round. No clause of a crew
+        // says so, and `Moved` is the result that claims nothing.
         return Passed::Moved;
     }
     goroutine.meet(run, seat);
@@ -156,8 +163,9 @@ fn step_once<L: Ledger>(
     Passed::by(&turned)
 }
 
-/// After all have looked, each has a turn of one instruction, between two meetings with its driver, until one moves. A goroutine that has
-/// made too many instructions to count another has no turn, and counts as one that moved.
+/// After all have looked, each has a turn of one instruction, between two meetings with its driver, until one moves: then the run
+/// continues, whatever the others would find. A goroutine that has made too many instructions to count another has no turn, and counts as
+/// one that moved.
 pub fn step_all<L: Ledger>(
     alloc: Global,
     run: &Run<'_, '_>,
@@ -218,7 +226,7 @@ pub fn check<L: Ledger>(
     step_all(alloc, run, goroutines, seat, steps)
 }
 
-/// A pass whose accesses to the table are counted by this ledger.
+/// A pass whose accesses to the table are counted by this ledger. The caller chooses its type, since `Steps` needs the blank of that type.
 fn check_counted<L: Ledger>(
     alloc: Global,
     run: &Run<'_, '_>,
@@ -241,7 +249,7 @@ fn check_counted<L: Ledger>(
     check(alloc, run, goroutines, seat, &mut Steps::<L>::new(blank))
 }
 
-/// A pass whose accesses to the table are counted for nobody.
+/// A pass whose accesses to the table are counted for nobody: a run needs no bound on them. The driver calls this one.
 pub(crate) fn check_uncounted(
     alloc: Global,
     run: &Run<'_, '_>,

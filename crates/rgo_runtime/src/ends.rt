@@ -7,6 +7,8 @@ use rgo_core_steps::clock::Mark;
 use rgo_sound::machine::{RunEnd, Shortage};
 use rgo_sound::region_machine::Limit;
 
+/// The end of a run in which a goroutine has met this limit. `RunEnd` does not say whether a goroutine met the limit or the driver
+/// found the lack in a check: for a user both are the same.
 fn end_of_limit(limit: Limit) -> RunEnd
     ensures { result ≡ spec.end_of_limit limit }
 {

@@ -1,4 +1,5 @@
-//! What a driver has when all its goroutines have left and the table is closed.
+//! What a driver has when all its goroutines have left and the table is closed. No code calls these functions: each is a
+//! theorem for the reader.
 ghost use Rattle.rgo_runtime.specs.Closing.{ClosesAnyway, ClosesWhole, ClosingExamples, PassTells};
 
 /// A driver that has lost nobody has the rows of all goroutines, the sum of what they have counted, and the mark of the end, if there is

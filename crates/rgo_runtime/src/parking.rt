@@ -44,7 +44,8 @@ impl<T: Drop> Model for Parked<T> {
     ghost invariant = { λ parked. parked.count ≡ length (pairs_of parked.groups.entries) };
 }
 
-/// Begins a group at an address that has none.
+/// Begins a group at an address that has none. The entry's memory is reserved before the value moves into its list, so that the error can
+/// return the value.
 fn new_group<T: Drop>(
     alloc: Global,
     groups: &mut Groups<T>,
@@ -70,7 +71,8 @@ fn new_group<T: Drop>(
     Ok(())
 }
 
-/// Adds a value to the group of an address.
+/// Adds a value to the group of an address. The view lists the pairs group by group, so the new one comes somewhere among them, and the
+/// clause `parked` says no more than that it is one of them.
 fn add_to_group<T: Drop>(
     alloc: Global,
     groups: &mut Groups<T>,
@@ -103,7 +105,8 @@ fn trim_group<T: Drop>(alloc: Global, group: &mut Vec<T>, is_few: bool)
     }
 }
 
-/// Moves the group of an address to the end of a list. Returns how many came.
+/// Moves the group of an address to the end of a list. Returns how many came, by which `count` shrinks. An address without a group
+/// is not an error: a channel may change at which nobody waits.
 fn take_group<T: Drop>(
     alloc: Global,
     groups: &mut Groups<T>,
@@ -132,7 +135,7 @@ fn take_group<T: Drop>(
     }
 }
 
-/// Moves all groups to the end of a list that has room for them.
+/// Moves all groups to the end of a list that has room for them, so that no append can fail when some have moved and others have not.
 fn take_all_groups<T: Drop>(groups: &mut Groups<T>, into: &mut Vec<T>)
     requires { length (pairs_of groups.old.entries) ≤ vec_capacity into.old - vec_len into.old }
     ensures moved { TakesAll (pairs_of groups.old.entries) into.old.items into.new.items }
@@ -163,7 +166,7 @@ impl<T: Drop> Parked<T> {
         self.count
     }
 
-    /// Whether none is parked.
+    /// Whether none is parked. `count` decides it: groups that were woken stay, so there may be groups and no value.
     pub fn is_empty(&self) -> bool
         ensures { result ≡ (length self.now == 0) }
     {
@@ -213,7 +216,8 @@ impl<T: Drop> Parked<T> {
         }
     }
 
-    /// Takes the goroutines that are parked at some address, at least one, the oldest first; `None` if none is parked.
+    /// Takes the goroutines that are parked at some address, at least one, the oldest first; `None` if none is parked. For a driver that
+    /// ends a run, to which addresses no longer matter. It skips groups that were woken.
     pub fn pop(&mut self) -> Option<Vec<T>>
         ensures some { MatchOption result (self.old ≡ []) (λ group. 0 < length group.items) }
         ensures rest { MatchOption result (self.new ≡ []) (λ group. parked_values self.old ≡ parked_values self.new ++ group.items) }
@@ -227,7 +231,7 @@ impl<T: Drop> Parked<T> {
         None
     }
 
-    /// All goroutines that are parked come to the list's end.
+    /// All goroutines that are parked come to the list's end. Room for all is reserved before the first moves.
     ///
     /// # Errors
     ///

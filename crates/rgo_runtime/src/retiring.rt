@@ -28,7 +28,8 @@ use rgo_core_steps::clock::Mark;
 use rgo_table_runs::goroutine::acts::runs::Run;
 use rgo_table_runs::goroutine::goroutine::Goroutine;
 
-/// Puts what the goroutine has counted at its place, and records how it has ended the run, if it has. Exact between two of its turns.
+/// Puts what the goroutine has counted at its place, and records how it has ended the run, if it has. Exact between two of its turns, since
+/// in a turn a goroutine counts for itself.
 pub(crate) fn save_counts(goroutine: &Goroutine, shares: &mut Shares, first: &mut Option<Mark>)
     ensures share { (r : runs.Run) → IsOf r goroutine.now → shares.new
         ≡ slice_set shares.old goroutine.now.number (record_of_goroutine r.setup goroutine.now).clock.share }
@@ -40,7 +41,8 @@ pub(crate) fn save_counts(goroutine: &Goroutine, shares: &mut Shares, first: &mu
     shares.set(goroutine.number(), goroutine.tally());
 }
 
-/// Retires a goroutine whose prints were gathered and whose children were adopted: its record comes to the seat of the driver.
+/// Retires a goroutine whose prints were gathered and whose children were adopted: its record comes to the seat of the driver. Without
+/// `gathered` and `adopted`, what the goroutine still has would be lost, against the clause `kept`.
 pub fn retire(
     run: &Run<'_, '_>,
     goroutine: Goroutine,
@@ -98,7 +100,8 @@ pub fn give_up(
     goroutine.give_up(run, seat);
 }
 
-/// What goroutines have counted, each share at the place of its goroutine's number, and how one of them has ended the run.
+/// What goroutines have counted, each share at the place of its goroutine's number, and how one of them has ended the run. It is a copy:
+/// those that have not retired continue to count.
 #[derive(Drop)]
 pub struct Snapshot {
     pub shares: Shares,
@@ -119,7 +122,7 @@ pub struct Left {
 }
 
 /// Retires a goroutine. If its prints were not gathered, or its children not adopted, or it has no place, as after memory was refused, it
-/// is given up.
+/// is given up. Neither way needs memory, so a run can always be closed.
 pub(crate) fn retire_or_give_up(run: &Run<'_, '_>, goroutine: Goroutine, left: &mut Left)
     requires of { IsOf run.now goroutine }
     requires tidy { IsTidy (record_of_goroutine run.now.setup goroutine) }
@@ -149,7 +152,8 @@ pub(crate) fn retire_or_give_up(run: &Run<'_, '_>, goroutine: Goroutine, left: &
     }
 }
 
-/// Retires the goroutines of the run queue, or gives them up, the last first.
+/// Retires the goroutines of the run queue, or gives them up. The last goes first, since then none of the others moves; the order means
+/// nothing, as the records are found by number.
 pub(crate) fn retire_turns<'r, 'c>(
     run: &'r Run<'r, 'c>,
     mut turns: Vec<Turn<'r, 'c>>,
@@ -180,7 +184,8 @@ pub(crate) fn retire_parked<'r, 'c>(
     }
 }
 
-/// Retires those that were just started, or gives them up. They have counted nothing, so they need no place.
+/// Retires those that were just started, or gives them up. They have counted nothing, so they need no place. There are some only if memory
+/// was refused in the last round: `enqueue_newborns` leaves none.
 pub(crate) fn retire_newborns(run: &Run<'_, '_>, mut born: Vec<Goroutine>, left: &mut Left)
     requires all { All (IsNewborn run.now) born.items }
     requires own { IsSeatOf left.old.seat.table_id run.now.table clock_at }

@@ -56,7 +56,8 @@ pub(crate) enum Why {
     Stuck(Passed),
 }
 
-/// What the scheduler keeps from round to round.
+/// What the scheduler keeps from round to round. No clause rests on it: `steps` is an upper bound, and `check_step_limit` counts exactly
+/// before it ends a run.
 #[derive(Drop)]
 struct Scheduler {
     pace: Pace,
@@ -102,7 +103,7 @@ fn check_step_limit(crew: &mut Crew<'_, '_>, most: u64, steps: &mut u64) -> Opti
 }
 
 /// Wakes all and checks for a deadlock. If nothing moves in it, the run is over. Only after a round in which nothing moved, so that a run
-/// that gets on never pays for it.
+/// that makes progress never pays for it.
 fn check_dead(crew: &mut Crew<'_, '_>) -> Option<Why>
     requires next { NoneIsNext crew.old }
     requires born { crew.old.born ≡ [] }
@@ -138,6 +139,8 @@ fn check_end(
     ensures run { crew.new.run ≡ crew.old.run }
     ensures other { result ≡ Some why.Write → ⊥ }
 {
+    // The mark of a goroutine goes before all that the driver finds. The limit is tested in each round, since how far a run may pass it
+    // counts from the last test. The check for a deadlock comes last: it is the dearest, and only a round in which nothing moved needs it.
     if summary.is_over {
         return Some(Why::Over);
     }
@@ -182,6 +185,7 @@ fn schedule_once<H: Threads + Sync, K: Sink, G: Gate + Sync>(
     sched.number = sched.number.saturating_add(1);
     sched.pace.after(summary.all_used);
     sched.steps = sched.steps.saturating_add(summary.steps);
+    // Before the run may end: prints of this round are part of it. Each end requires `NoneIsNext`, which a flush leaves.
     match crew.flush_prints(out) {
         Ok(()) => {}
         Err(_) => return Some(Why::Write),
@@ -251,7 +255,8 @@ fn unmarked_end(why: Why, made: &Tally, most: u64) -> RunEnd
     }
 }
 
-/// How a run that has made this has ended, when all its goroutines have left.
+/// How a run that has made this has ended, when all its goroutines have left. Want of memory, a failed write and a loss (`is_whole`) go
+/// before a mark, since after them prints may be missing.
 fn end_of_run(why: Why, is_whole: bool, first: Option<Mark>, made: &Tally, most: u64) -> RunEnd
     ensures { result ≡ end_by why is_whole first (counts_in made.now) most }
 {
@@ -315,6 +320,7 @@ fn run_on_table<H: Threads + Sync, K: Sink, G: Gate + Sync>(
     };
     let program = Program::new(alloc, code)?;
     let (table, seat) = open(alloc, code, variables, sizes, limits)?;
+    // The goroutines borrow the table. The block ends with their retirement, so that the table can be closed.
     let (left, why) = {
         let run = Run::new(&table, layout, limits, &program);
         match Crew::new(alloc, &run, seat) {

@@ -13,7 +13,8 @@ use rgo_table_runs::goroutine::body::Counts;
 use std::alloc::{AllocError, Global};
 use std::marker::Model;
 
-/// The list of shares is shorter than this, so that the sums fit.
+/// The list of shares is shorter than this, so that the sums fit: 2^40 numbers below 2^64 have a sum below 2^104. A run has at most a
+/// million goroutines, so this limit is never met; as an invariant of the list it lets `total` add without a test.
 const MOST: usize = 1 << 40;
 
 /// The shares by number. Contracts see the list of them.
@@ -33,7 +34,7 @@ impl Model for Shares {
     ghost invariant = { λ s. length s.shares.items < 1099511627776 };
 }
 
-/// The same counts.
+/// The same counts. Written out, since `Counts` has no copy: a goroutine's counts are its own, and a copy is wanted only here.
 fn copy_of(counts: &Counts) -> Counts
     ensures { result ≡ counts.now }
 {
@@ -73,7 +74,7 @@ impl Shares {
         }
     }
 
-    /// The same shares once more.
+    /// The same shares once more, for a snapshot of a run that continues.
     ///
     /// # Errors
     ///
@@ -89,7 +90,8 @@ impl Shares {
         Ok(Shares { shares })
     }
 
-    /// Makes a place for the goroutine of this number, and for those of lower numbers. Nothing is counted at a new place.
+    /// Makes a place for the goroutine of this number, and for those of lower numbers. Nothing is counted at a new place. Called before
+    /// a goroutine comes into the run queue, so that it needs no memory when it retires.
     ///
     /// # Errors
     ///
@@ -117,7 +119,7 @@ impl Shares {
         Ok(())
     }
 
-    /// Whether the goroutine of this number has a place.
+    /// Whether the goroutine of this number has a place. Compared as `u128`s, so that neither number is cut.
     pub fn has_place(&self, number: u64) -> bool
         ensures { (result ≡ true) ↔ (number < length self.now) }
     {
@@ -135,7 +137,7 @@ impl Shares {
         }
     }
 
-    /// The sum of all: that of the run once all goroutines have retired.
+    /// The sum of all: that of the run once all goroutines have retired. No sum overflows, by the invariant.
     pub fn total(&self) -> Tally
         ensures { counts_in result ≡ sum_of self.now }
     {

@@ -8,7 +8,8 @@ use rgo_sound::machine::{RunEnd, Sizes};
 use rgo_sound::tac::Op;
 use rgo_sound::typed::Action;
 
-/// Whether an action makes an object.
+/// Whether an action makes an object. Each action is listed: a new one that an arm for all others took as making none would find no
+/// room in a smaller table.
 fn action_allocates(action: Action) -> bool {
     match action {
         Action::New(_) | Action::Slice | Action::Chan => true,
@@ -33,7 +34,7 @@ fn action_allocates(action: Action) -> bool {
     }
 }
 
-/// Whether an instruction makes one.
+/// Whether an instruction makes one. A call or `go` makes none itself: what the function does is found at that function.
 fn op_allocates(op: Op<'_>) -> bool {
     match op {
         Op::Do { action, .. } => action_allocates(action),
@@ -62,7 +63,7 @@ fn function_allocates(function: &CodeFn<'_>) -> bool {
     false
 }
 
-/// Whether some function of the code has such an instruction.
+/// Whether some function of the code has such an instruction, also if it is never called: that costs only a larger table.
 fn code_allocates(code: &Code) -> bool {
     for n in 0..code.len() {
         // There is one: `n` is below the length.
@@ -75,7 +76,8 @@ fn code_allocates(code: &Code) -> bool {
     false
 }
 
-/// The sizes of a smaller table for code that makes nothing; `None` for any other code.
+/// The sizes of a smaller table for code that makes nothing; `None` for any other code. One page is left, since a table has at least one.
+/// No clause says that the code makes nothing: `unless_short` makes up for that.
 pub(crate) fn smaller_table(code: &Code, sizes: Sizes) -> Option<Sizes>
     requires { 0 < sizes.pages }
     ensures narrower { IfSome result (λ few. IsNarrower few sizes) }

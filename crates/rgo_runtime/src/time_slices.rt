@@ -4,15 +4,17 @@
 //! fast a run is. Only the driver's thread uses it, before and after each round.
 ghost use Rattle.std.specs.Prelude.{◌≤◌};
 
-/// The time slice at first, in instructions, and the longest one.
+/// The time slice at first, in instructions, and the longest one. A run passes its limit of steps by fewer than `SHORT` for each goroutine,
+/// which is part of the claim. At `LONG` the cost of a round no longer matters.
 const SHORT: u32 = 1_000;
 
 const LONG: u32 = 1_000_000;
 
-/// The least instructions of a round for which threads are started.
+/// The least instructions of a round for which threads are started. For less, starting them costs more than they save.
 const WORTH_THREADS: u64 = 30_000;
 
-/// The first rounds, which are on threads whatever their length, and the most goroutines that are ready in such a round.
+/// The first rounds, which are on threads whatever their length, and the most goroutines that are ready in such a round. So a small program
+/// that has a data race shows it, as a large one does, and a test can hold its workers.
 const FIRST_ROUNDS: u64 = 2;
 
 const FEW: usize = 8;
@@ -34,7 +36,7 @@ impl Pace {
     }
 
     /// The time slice of each turn of a round of `ready` goroutines, in a run that may execute `left` instructions more before its
-    /// limit is tested.
+    /// limit is tested. It is not cut below `SHORT`, so that a run does not slow down near its limit.
     pub(crate) fn time_slice(&self, ready: usize, left: u64) -> u32 {
         let share = left / (ready as u64).max(1);
         let most = share.max(u64::from(SHORT));

@@ -12,9 +12,9 @@ ghost use Rattle.rgo_table_runs.specs.Goroutine.Turns.{HasTurned};
 ghost use Rattle.rgo_runtime.specs.Crews.{IsNewborn, DriverKeeps, drawn, its_member, members};
 ghost use Rattle.rgo_runtime.specs.Turns as spec;
 
+use crate::printing::PrintQueue;
 use rgo_core_steps::counting::Steps;
 use rgo_sched::Task;
-use rgo_table_runs::goroutine::acts::prints::Print;
 use rgo_table_runs::goroutine::acts::runs::Run;
 use rgo_table_runs::goroutine::goroutine::Goroutine;
 use rgo_table_runs::goroutine::turning::Turned;
@@ -93,6 +93,7 @@ impl<'r, 'c> Turn<'r, 'c> {
         &self.turned
     }
 
+    /// The goroutine, to read what its turns have done. Between rounds.
     pub fn goroutine(&self) -> &Goroutine
         ensures of { IsOf self.now.run result.now }
         ensures tidy { IsTidy (record_of_goroutine self.now.run.setup result.now) }
@@ -101,14 +102,14 @@ impl<'r, 'c> Turn<'r, 'c> {
         self.goroutine.as_ref()
     }
 
-    /// Takes what it has printed, and the goroutines that it has started, to the ends of these lists. After its turn.
+    /// Takes what it has printed into the queue of prints, and the goroutines that it has started to the list's end. After its turn.
     ///
     /// # Errors
     ///
     /// On allocation failure. Then some of it has come, and the goroutine has the rest.
     pub fn collect(
         &mut self,
-        waiting: &mut Vec<Print>,
+        queue: &mut PrintQueue,
         born: &mut Vec<Goroutine>,
     ) -> Result<(), AllocError>
         requires born { All (IsNewborn self.old.run) born.old.items }
@@ -116,17 +117,18 @@ impl<'r, 'c> Turn<'r, 'c> {
         ensures number { self.new.goroutine.number ≡ self.old.goroutine.number }
         ensures actor { self.new.goroutine.actor ≡ self.old.goroutine.actor }
         ensures born { All (IsNewborn self.old.run) born.new.items }
-        ensures kept { DriverKeeps (its_member self.old ∷ members self.old.run.setup born.old.items) (drawn waiting.old.items)
-            (its_member self.new ∷ members self.old.run.setup born.new.items) (drawn waiting.new.items) }
+        ensures kept { DriverKeeps (its_member self.old ∷ members self.old.run.setup born.old.items) (drawn queue.old.waiting)
+            (its_member self.new ∷ members self.old.run.setup born.new.items) (drawn queue.new.waiting) }
+        ensures next { queue.new.next ≡ queue.old.next }
         ensures done { OnOk result ((self.new.goroutine.prints.items ≡ []) × (self.new.goroutine.children.items ≡ [])) }
     {
         let goroutine = self.goroutine.as_mut();
-        goroutine.gather(waiting)?;
+        queue.gather(goroutine)?;
         goroutine.adopt(self.alloc, self.run, born)?;
         Ok(())
     }
 
-    /// The goroutine in its box.
+    /// The goroutine in its box, for a check for a deadlock: the turns of a check have no time slice.
     pub fn into_box(self) -> Box<Goroutine>
         ensures of { IsOf self.entry.run result.value }
         ensures tidy { IsTidy (record_of_goroutine self.entry.run.setup result.value) }
@@ -143,7 +145,7 @@ impl<'r, 'c> Turn<'r, 'c> {
         goroutine
     }
 
-    /// The goroutine, which has no more turns.
+    /// The goroutine, which has no more turns. Its time slice and what its last turn has done are dropped.
     pub fn into_goroutine(self) -> Goroutine
         ensures of { IsOf self.entry.run result }
         ensures tidy { IsTidy (record_of_goroutine self.entry.run.setup result) }
@@ -174,7 +176,7 @@ fn turn_counted<L: Ledger>(
     goroutine.turn(alloc, run, slice, &mut Steps::<L>::new(blank))
 }
 
-/// A turn whose accesses to the table are counted for nobody.
+/// A turn whose accesses to the table are counted for nobody: no clause bounds the accesses of a run.
 fn turn_once(alloc: Global, run: &Run<'_, '_>, goroutine: &mut Goroutine, slice: u32) -> Turned
     requires of { IsOf run.now goroutine.old }
     requires pages { TableHasPages run.now }
@@ -189,7 +191,8 @@ fn turn_once(alloc: Global, run: &Run<'_, '_>, goroutine: &mut Goroutine, slice:
 impl<'r, 'c> Task for Turn<'r, 'c> {
     ghost goes = { spec.TurnIsTaken };
 
-    /// A turn of as many instructions as it was given.
+    /// A turn of as many instructions as it was given. Called by one worker, which has the task for itself. The slice is used up, so a
+    /// second turn in the round would do nothing.
     fn turn(&mut self) -> bool {
         let turned = turn_once(self.alloc, self.run, self.goroutine.as_mut(), self.slice);
         self.slice = 0;

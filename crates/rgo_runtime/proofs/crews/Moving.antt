@@ -1,4 +1,5 @@
--- Moving: goroutines go from one list of their driver to another, and nobody is lost by it.
+-- Goroutines go from one list of their driver to another, and nobody is lost by it. A move between the run queue and the parked ones is a
+-- permutation of both together, whether or not memory was refused, and `keeps_turns` makes `DriverKeeps` of it.
 use Rattle.std.proofs.Common.{◌≡◌, ◌<◌, ◌≤◌, ◌==◌, ⊎_elim, ℕ, not, List, [], ◌∷◌, ◌++◌, All, Err, IsPermutation, MatchOption, None, Some, Ok, OnErr, Option, OnOk, Result, filter, get_or, length, map, replicate, swap_remove, refl, ap, sym, subst, ◌∙◌, append_assoc, append-nil, arith}
 use Rattle.std.proofs.lemmas.List.{length-append, map-append}
 use Rattle.std.proofs.lemmas.List.Elements.{All-append, All-cons, All-head, All-nil, All-push, All-tail, All-weaker}
@@ -171,7 +172,7 @@ module _ (c : Crew) (ys : List Turn) (x : Turn) (table : TableId) (me : Me Recor
   abbrev its : All (IsOfCrew c.run (length c.shares)) (x ∷ ys)
   its = All-permutation (IsOfCrew c.run (length c.shares)) c.ready (x ∷ ys) taken is.ready
 
-  -- its last turn says that it has ended
+  -- its last turn reports that it has ended
   over_by : (o : Option Turned) → x.turned ≡ o → MatchOption o ⊥ (λ turned. turned.stop ≡ Ended) → HasFinished (record_of_goroutine c.run.setup x.goroutine)
   over_by None says m = absurd m
   over_by (Some turned) says m = (All-head (IsOfCrew c.run (length c.shares)) x ys its).ended turned says m

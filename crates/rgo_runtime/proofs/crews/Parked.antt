@@ -1,5 +1,5 @@
--- Keeping: what holds of every goroutine that is parked, and of every one that has come out, stays so. For the callers of `Parked`, each by
--- the clause of the call.
+-- What holds of every goroutine that is parked, and of every one that has come out, stays so. For the callers of `Parked`: one lemma for
+-- each of its calls, from the clause of that call.
 use Rattle.std.proofs.Common.{◌==◌, ℕ, not, List, ◌∷◌, ◌++◌, ◌≡◌, [], All, IsPermutation, filter, subst, sym}
 use Rattle.std.proofs.lemmas.List.Elements.{All-append, All-cons, All-filter, All-head, All-map, All-nil, All-tail}
 use Rattle.std.proofs.lemmas.List.Sorted.{All-permutation, IsPermutation-map, IsPermutation-sym}

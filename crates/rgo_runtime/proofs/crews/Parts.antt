@@ -1,4 +1,7 @@
--- Parts of a driver, one after the other: where each keeps its goroutines and its prints, all together keep them.
+-- Parts of a driver, one after the other: if each keeps its goroutines and its prints, all together keep them. A part is stated for
+-- whatever other members and earlier prints there are, so parts can be composed (`keeps_then`) and put beside each other (`keeps_both`).
+-- All reorderings go through `kept_by_order`, since `NoneIsLost` asks only who is a member. The hard cases are prints that were gathered,
+-- of which void ones are dropped, and children that were adopted.
 use Rattle.std.proofs.Common.{◌≡◌, ◌⊎◌, ◌<◌, inl, inr, ℕ, zero, suc, Bool, true, false, cond, not, List, [], ◌∷◌, ◌++◌, Option, Some, None, All, Contains, IsPermutation, map, slice_get, refl, ap, sym, subst, ◌∙◌, ⊎_elim, arith, append_assoc, append-nil, true≢false}
 use mathlib.Core.Option.{some, some-injective, some-ne-none}
 use lib.ListN.{get_elem?}
@@ -156,16 +159,16 @@ keeps_prints a b w t u keeps others given k =
     subst (λ (l : List Drawn). NoneIsLost (b ++ others) l) (append_assoc given w u)
     (keeps others (given ++ w) (subst (λ (l : List Drawn). NoneIsLost (a ++ others) l) (sym (append_assoc given w t)) k))
 
--- where none waits, whatever waits
+-- what is kept if no print waits is kept whatever waits
 pub keeps_any : (a b : List Member) (t : List Drawn) → DriverKeeps a [] b [] → DriverKeeps a t b t
 keeps_any a b t keeps =
     subst (λ (l : List Drawn). DriverKeeps a l b l) (append-nil t) (keeps_prints a b t [] [] keeps)
 
--- those of a list in another order
+-- the members of a list in another order
 pub keeps_moved : {A : Type 0} (its : A → Member) (xs ys : List A) (t : List Drawn) → IsPermutation xs ys → DriverKeeps (map its xs) t (map its ys) t
 keeps_moved its xs ys t same = keeps_permuted (map its xs) (map its ys) t t (IsPermutation-map its xs ys same) (IsPermutation-refl t)
 
--- where there are no other members
+-- if there are no other members
 pub kept_by : (a b : List Member) (given t u : List Drawn) → DriverKeeps a t b u → NoneIsLost a (given ++ t) → NoneIsLost b (given ++ u)
 kept_by a b given t u keeps k =
     subst (λ (l : List Member). NoneIsLost l (given ++ u)) (append-nil b)
@@ -237,7 +240,7 @@ abbrev said : Turned → Option Turned → Turned
 said other None = other
 said other (Some turned) = turned
 
--- a goroutine whose turn says that it has ended is over
+-- a goroutine whose turn reports that it has ended is over
 ended_task : (r : Run) (before after : Turn) (went : Bool) → TurnIsTaken before after went → before.run ≡ r → (turned : Turned)
     → after.turned ≡ Some turned → turned.stop ≡ Ended → HasFinished (record_of_goroutine r.setup after.goroutine)
 ended_task r before after went takes is turned says stop =
@@ -461,7 +464,7 @@ nothing_done r (g ∷ gos) all m (zero, e) =
     (is.blank, ap drawn is.prints, ap numbers is.children)
 nothing_done r (g ∷ gos) all m (suc i, e) = nothing_done r gos (All-tail (IsNewborn r) g gos all) m (i, e)
 
--- those that were adopted come after it
+-- the children that were adopted come after it
 pub keeps_adopted : (m n : Member) (more : List Member) (t : List Drawn) → WereAdopted m n more → DriverKeeps (m ∷ []) t (n ∷ more) t
 keeps_adopted m n more t were others given k =
     kept_permuted ((n ∷ others) ++ more) ((n ∷ more) ++ others) (given ++ t) (given ++ t)

@@ -1,4 +1,5 @@
--- What goroutines have counted so far, some of which have retired while others have more turns.
+-- What goroutines have counted so far, some of which have retired while others have more turns. It is the same statement as for those that
+-- have retired, over the rows of both; each turn of the loop adds the row of one turn.
 use Rattle.std.proofs.Common.{◌≡◌, inl, inr, ⊎_elim, ℕ, ◌+◌, ◌<◌, ◌≤◌, List, [], ◌∷◌, ◌++◌, All, append_assoc, get_or, length, map, take, MatchOption, Option, None, Some, slice_get, slice_set, ap, sym, subst, ◌∙◌, arith}
 use Rattle.std.proofs.lemmas.List.{map_more}
 use Rattle.std.proofs.lemmas.List.Elements.{All-get_or}
@@ -47,8 +48,8 @@ row_comes r rows ts i t go within at is =
     ap (λ (x : Goroutine). before ++ goroutine_row r.setup x ∷ []) is ∙ ap (λ (x : Turn). before ++ row x ∷ []) at ∙ sym (map_more row ts i t within) in
     append_assoc rows before (goroutine_row r.setup go ∷ []) ∙ ap (λ (l : Rows Record). rows ++ l) more
 
--- What go has counted is put at its place, and how it has ended the run is noted, where go is the goroutine of the next turn: beside the
--- first rows, those of one more turn are known.
+-- `go` is the goroutine of the next turn. What it has counted is put at its place, and how it has ended the run is recorded: now one more
+-- row is known.
 pub one_noted : (r : Run) (rows : Rows Record) (ts : List Turn) (n i : ℕ) (t : Turn) (go : Goroutine) (shares then : List Counts)
     (old new : Option clock.Mark) → i < length ts → t ≡ get_or ts i t → go ≡ t.goroutine → All (IsOfCrew r n) ts → length shares ≡ n
     → IsOf t.run go → IsTidy (record_of_goroutine t.run.setup go)

@@ -1,4 +1,6 @@
--- What the steps of a crew keep.
+-- What the steps of a crew keep that change one goroutine after the other. `Changes` is the invariant of such a loop: only the run queue,
+-- those that were born and the prints differ from the crew at the start. `one_changes` is its step, and its premises are the clauses of the
+-- call.
 use Rattle.std.proofs.Common.{◌≡◌, ◌⊎◌, ◌<◌, inl, inr, ℕ, zero, suc, Bool, List, [], ◌∷◌, ◌++◌, Option, Some, None, All, IfErr, IfOk, IsPermutation, Vec, drop, get_or, length, map, replicate, set, slice_get, take, refl, ap, sym, subst, ◌∙◌, append_assoc}
 use Rattle.std.specs.Prelude.{Result, Ok, Err}
 use Rattle.std.proofs.lemmas.List.{length-set, map-append, set-get_or, set_split}

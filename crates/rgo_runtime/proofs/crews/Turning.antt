@@ -1,4 +1,6 @@
--- Turning: what a turn between two meetings with the driver comes to.
+-- What a turn between two meetings with the driver comes to. By `MeetsAgain` the turn's accesses come right after what the driver had seen,
+-- so what the goroutine found is true of the words then (`passes_by_turn`). While others have their turns without a move, it stays true
+-- (`stays_passed`).
 use Rattle.std.proofs.Common.{◌≡◌, ◌+◌, ◌<◌, ◌≤◌, ◌^◌, ℕ, true, false, List, [], ◌∷◌, ◌++◌, Option, Some, None, get_or, length, refl, sym, ap, ◌∙◌, subst, inl, inr, arith, set}
 use Rattle.std.specs.List.{AllZip, Contains}
 use Rattle.std.proofs.lemmas.List.{append-nil, get_or-set_same, length-set}

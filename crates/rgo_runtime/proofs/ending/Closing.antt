@@ -1,4 +1,6 @@
--- What a driver has when all goroutines have left and the table is closed.
+-- What a driver has when all goroutines have left and the table is closed. `family_is_all` carries it: the rows at the driver's seat have
+-- `main` and every child of a row, so they are all goroutines of the run. Then a row of the view is that of its number, and what was
+-- counted, printed and marked in the rows is so of the whole run.
 use lib.ListN.{get_elem?}
 use mathlib.Core.Option.{some}
 use Rattle.std.proofs.Common.{◌≡◌, ℕ, false, List, ◌++◌, Option, None, Some, length}
@@ -55,7 +57,7 @@ module _ (T : Setup) (words : List ℕ) (v : View Record) (e : ClosesTable T wor
   first_there all None none = λ g c has. none g c (all.here g c has)
   first_there all (Some mark) set = (set.0, set.1, row_there all set.0 set.1 set.2, set.3)
 
-  -- of each print that has gone out
+  -- what holds of each print that has gone out
   module _ (family : HasFamily v) (are : (d : Drawn) → IsDrawnIn (given ++ waiting) d → (d.is_void ≡ false) × SomePrinted v.records d) where
     given_is : (i : ℕ) (d : Drawn) → get_elem? given i ≡ some d → (d.is_void ≡ false) × SomePrinted v.records d
     given_is i d at = are d (in_left given waiting d (i, at))
@@ -75,7 +77,7 @@ module _ (T : Setup) (words : List ℕ) (v : View Record) (e : ClosesTable T wor
       sum = shares_are_all T words v e rows shares (all_of family) (has_shares T words v e shares first gone);
     }
 
-    -- where each print that is not void has gone out or waits
+    -- if each print that is not void has gone out or waits
     pub all_out : ((d : Drawn) → IsDrawnIn waiting d → d.ticket ≡ length given → ⊥)
         → ((d : Drawn) → SomePrinted v.records d → d.is_void ≡ false → IsDrawnIn (given ++ waiting) d) → AllGiven rows given
     all_out next each = gathered_are_given T words v e rows given waiting (all_of family) in_order (record {

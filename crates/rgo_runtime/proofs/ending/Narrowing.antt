@@ -1,4 +1,5 @@
--- A run in a smaller table is one that a larger table allows.
+-- A run in a smaller table is one that a larger table allows. All parts of a run but one are the same for both; only that each state fits
+-- is weakened. A lack of room is the exception: it says nothing of the larger table, so it becomes want of memory, which claims no more.
 use Rattle.std.proofs.Common.{◌≡◌, ◌≤◌, ◌<◌, ◌*◌, ℕ, zero, suc, Bool, List, Option, refl, subst, arith}
 use Rattle.rgo_core.specs.Image.{table_sizes}
 use Rattle.rgo_core.specs.Memory.Words.{all_words}
@@ -44,7 +45,7 @@ module _ (code : Code) (few sizes : Sizes) (limits : Limits) (tally : Counts) (o
   abbrev cut : Sizes
   cut = record sizes { pages = few.pages; regions = few.regions }
 
-  -- the same run with its regions, of an end that is no want of room
+  -- the same run with its regions, if its end is not a want of room
   abbrev widened : (end other : RunEnd) (t : TacState) → IsNarrower cut sizes → ((why : Shortage) → other ≡ run_end.NoRoom why → ⊥)
       → RegionRun code cut end t → RegionRun code sizes other t
   widened end other t narrow roomy r = record {
@@ -69,7 +70,7 @@ module _ (code : Code) (few sizes : Sizes) (limits : Limits) (tally : Counts) (o
     made = r.made;
   }
 
-  -- want of room is given as want of memory
+  -- a want of room is reported as want of memory
   given_up : (why : Shortage) → IsNarrower cut sizes → RunsIn cut (run_end.NoRoom why) → RunsIn sizes run_end.NoMemory
   given_up why narrow r = record {
     runs = record {
@@ -105,7 +106,7 @@ module _ (code : Code) (few sizes : Sizes) (limits : Limits) (tally : Counts) (o
       by_end end (record { page_words = refl; some = narrow.some; pages = narrow.pages; regions = narrow.regions })
       (subst (λ z. RunsIn z end) (is_cut narrow) r)
 
--- ends that are neither are neither still
+-- an end that is spent steps or a failed write was so before
 pub spent_before : (end : RunEnd) → unless_short end ≡ run_end.StepsSpent → end ≡ run_end.StepsSpent
 spent_before (run_end.NoRoom why) is = cc
 spent_before (run_end.Ended end) is = is

@@ -1,4 +1,5 @@
--- What a driver knows from round to round.
+-- What a driver knows from round to round: `CrewContinues` is composed of steps in which no print goes out and of steps in which some do.
+-- In the second kind, tickets and bytes of what goes out continue those of what has gone out before.
 use Rattle.std.proofs.Common.{◌≡◌, ◌+◌, ℕ, zero, suc, List, [], ◌∷◌, ◌++◌, Option, None, Some, All, MatchOption, length, refl, ap, sym, subst, ◌∙◌, append-nil, append_assoc, arith, take}
 use mathlib.Core.Option.{some, some-injective, some-ne-none}
 use lib.ListN.{get_elem?}
@@ -48,7 +49,7 @@ joined n (g ∷ given) more first turns (suc i) d at =
     (subst (λ (k : ℕ). AreFrom k more) one turns) i d at in
     omega (arith, later)
 
--- those with the following tickets come after those that have gone out
+-- prints with the following tickets come after those that have gone out
 pub in_order : (given : List Drawn) (from : ℕ) (more : List Print) → AreInOrder given → from ≡ length given → AreFrom from more
     → AreInOrder (given ++ drawn more)
 in_order given from more first is turns i d at =
@@ -142,7 +143,7 @@ ends_then Over a b c was mid now first second = (goes_then a b c was mid now fir
 ends_then Steps a b c was mid now first second = (goes_then a b c was mid now first second.0, second.1)
 ends_then (Stuck passed) a b c was mid now first second = (goes_then a b c was mid now first second.0, second.1)
 
--- the same of what a step has come to: none, or why the run is over
+-- the same for what a step has come to: none, or why the run is over
 pub comes_then : (result : Option Why) (a b c : Crew) (was mid now : Option (List ℕ)) → CrewContinues a was b mid
     → MatchOption result (CrewContinues b mid c now) (λ why. EndsFor why b mid c now)
     → MatchOption result (CrewContinues a was c now) (λ why. EndsFor why a was c now)

@@ -1,4 +1,6 @@
--- From what a driver knows when it ends a run, to the run of the code that its table has made.
+-- From what a driver knows when it ends a run, to the run of the code that its table has made. All goroutines leave, so the rows at the
+-- seat are all of the run (`Closing`), and each reason for the end gives what `TableRunEnds` asks: the mark, the last pass (`Telling`), or
+-- the exact count. Want of memory and a failed write ask for nothing, so they serve all cases in which something is lost.
 use Rattle.std.proofs.Common.{◌≡◌, ◌≤◌, ◌<◌, ◌+◌, ◌*◌, ⊎_elim, ℕ, Bool, true, false, cond, ◌&&◌, nat_le, nat_lt, List, [], ◌∷◌, ◌++◌, IsPermutation, Option, None, Some, length, map, refl, ap, sym, subst, ◌∙◌, arith, append_assoc}
 use Rattle.std.specs.Io.KnownBytes.{Appends}
 use Rattle.std.specs.List.{All, AllByRecursion}
@@ -54,7 +56,7 @@ use Rattle.rgo_runtime.proofs.ending.Telling.{in_map, in_order, map_in, pass_tel
 
 -- ---- members
 
--- those of turns are those of their goroutines
+-- the members of turns are those of their goroutines
 of_crew : (r : Run) (n : ℕ) (ts : List Turn) → AllByRecursion (IsOfCrew r n) ts → turning ts ≡ members r.setup (map its_goroutine ts)
 of_crew r n [] all = refl
 of_crew r n (t ∷ ts) all =
@@ -81,7 +83,7 @@ spent_is made most q = by (nat_le most made.steps) (nat_lt made.steps (most + 10
     by true false p r both = cc
     by false y p r both = cc
 
--- no mark says that instructions were spent, or that a write failed
+-- no mark reports that instructions were spent, or that a write failed
 not_by_mark : (mark : clock.Mark) → (run_end_of_mark (mark_of mark) ≡ run_end.StepsSpent → ⊥) × (run_end_of_mark (mark_of mark) ≡ run_end.WriteFault → ⊥)
 not_by_mark (given.Ended end) = (λ x. cc, λ x. cc)
 not_by_mark (given.Stopped limit.Pages) = (λ x. cc, λ x. cc)
@@ -153,7 +155,7 @@ module _ (made : Counts) (most : ℕ) where
   written_by : (why : Why) (whole : Bool) (first : Option clock.Mark) → why ≡ Write → end_by why whole first made most ≡ run_end.WriteFault
   written_by why whole first is = ap (λ w. end_by w whole first made most) is
 
-  -- so the sink says it of the end as of why there is one
+  -- so the sink's faults show it of the end, as they show it of the reason for the end
   pub fails_so : (why : Why) (whole : Bool) (first : Option clock.Mark) (end : RunEnd) (before now : ℕ) (broken : Bool)
       → end ≡ end_by why whole first made most → FailsIf (why ≡ Write) before now broken
       → FailsIf (end ≡ run_end.WriteFault) before now broken
@@ -163,7 +165,7 @@ module _ (made : Counts) (most : ℕ) where
     held = λ n. f.held (λ w. n (is ∙ written_by why whole first w));
   }
 
--- a mark that was set tells the end
+-- a mark that was set determines the end
 by_mark : (code : Code) (sizes : Sizes) (limits : Limits) (steps : ℕ) (s : RegionState) (mark : Mark) (end : RunEnd) → run_end_of_mark mark ≡ end
     → TableRunEnds code sizes limits 0 steps s (Some mark) end
 by_mark code sizes limits steps s mark (run_end.Ended end) q = q
@@ -199,7 +201,7 @@ module _ (c : Crew) (left : Left) (k : IsRunCrew c) (gone : HaveAllLeft c left) 
   abbrev all : List Goroutine
   all = map its_goroutine c.ready ++ (map its_goroutine (parked_values c.parked) ++ c.born)
 
-  -- those that had retired before
+  -- the members that had retired before
   abbrev before : List Member
   before = map retired gone.begin.seat.me.0.records
 
@@ -250,7 +252,7 @@ module _ (c : Crew) (left : Left) (k : IsRunCrew c) (gone : HaveAllLeft c left) 
       (gone.left.members [] taken
       (nobody_by_order (crew_members c) (left_ones ++ []) taken taken (nobody_lost (crew_members c) taken none) (same_ones taken)))
 
-  -- where the driver says that nothing of them is lost
+  -- if the driver reports that nothing of them is lost
   no_print : left.is_whole ≡ true → (taken : List Drawn) → NoneIsLost (crew_members c) taken
       → NoneIsLost (map retired left.seat.me.0.records) taken
   no_print whole taken none =
@@ -292,7 +294,7 @@ module _ (c : Crew) (left : Left) (k : IsRunCrew c) (gone : HaveAllLeft c left) 
     by_fault : (given : List Drawn) → HasGivenSome c given was now → RunsAs run_end.WriteFault
     by_fault given h = runs_as given run_end.WriteFault (has_anyway given h.rest h.none_lost h.turns) tt h.out
 
-    -- where no print that waits is the next, and nothing is lost, all prints have gone out
+    -- if no print that waits is the next, and nothing is lost, all prints have gone out
     module _ (given : List Drawn) (h : HasGiven c given was now) (next : NoneIsNext c) where
       has_all : left.is_whole ≡ true → Has given × AllGiven rows given
       has_all whole = closes_whole T words left.seat.me.0 e left.shares (end_mark left.first) given (drawn c.waiting)
@@ -314,7 +316,7 @@ module _ (c : Crew) (left : Left) (k : IsRunCrew c) (gone : HaveAllLeft c left) 
       settled unmarked ends true whole (Some mark) is = by_end (run_end_of_mark (mark_of mark)) (Some mark) is whole
           (λ has. by_mark T.code T.sizes T.limits (all_shares rows).steps (last_state e) (mark_of mark) (run_end_of_mark (mark_of mark)) refl)
 
-      -- so many instructions were executed
+      -- the instructions that were executed
       spent : (made : Counts) → made ≡ sum_of left.shares → Has given → (b : Bool) → is_spent made T.limits.steps ≡ b
           → EndsAs None (cond b run_end.StepsSpent run_end.NoMemory)
       spent made is has false q = tt

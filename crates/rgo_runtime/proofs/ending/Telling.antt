@@ -1,4 +1,6 @@
--- What the last pass of a run tells of the run, when all goroutines have left and the table is closed.
+-- What the last pass of a run implies about the run, when all goroutines have left and the table is closed. Goroutines come in three lists
+-- in other orders (the pass, the run queue, those that left), and the law of passes speaks of numbers: so a lack is looked up by number
+-- (`first_lack`), and for the goroutine that lacks room the list begins with it, so that the look-up finds this lack.
 use lib.ListN.{get_elem?}
 use mathlib.Core.Option.{some, some-injective}
 use Rattle.std.proofs.Common.{◌≡◌, ◌⊎◌, inl, inr, ⊎_elim, ℕ, Bool, true, false, nat_eq, if◌then◌else◌, List, [], ◌∷◌, ◌++◌, IsPermutation, Option, None, Some, map, refl, ap, sym, subst, ◌∙◌, zero, suc, arith}
@@ -120,7 +122,7 @@ module _ (P : Goroutine → Option Shortage → Type 0) where
       (λ (s : In lacks lack). let r = lacking gos lacks zip.1 lack s in (r.0, in_rest go gos r.0 r.1, r.2))
       (in_cons x lacks lack t)
 
--- where all lack nothing, none does
+-- if all lack nothing, none of them lacks anything
 none_lack : (gos : List Goroutine) (lacks : List (Option Shortage)) → ((lack : Option Shortage) → In lacks lack → lack ≡ None)
     → (g : ℕ) → first_lack gos lacks g ≡ None
 none_lack [] lacks none g = refl
@@ -151,7 +153,7 @@ module _ (before c : Crew) (passed : Passed) (left : Left) (words : List ℕ) (e
   rows_are : v.records ≡ c.me.0.records ++ map (goroutine_row T) gone.gone
   rows_are = gone.left.rows whole ∙ ap (λ me. me.0.records ++ map (goroutine_row T) gone.gone) gone.is.0
 
-  -- those that were ready are all that had not retired
+  -- the goroutines that were ready are all that had not retired
   all_ready : IsPermutation gone.gone (map its_goroutine c.ready)
   all_ready =
       let rest : map its_goroutine (parked_values c.parked) ++ c.born ≡ [] =
@@ -170,7 +172,7 @@ module _ (before c : Crew) (passed : Passed) (left : Left) (words : List ℕ) (e
   seen_is : v.seen ≡ c.me.0.seen
   seen_is = gone.left.seen whole behind ∙ ap (λ me. me.0.seen) gone.is.0
 
-  -- of which all in these lists have passed, and lack this
+  -- all in these lists have passed, and each lacks what the other list has at its place
   module _ (gos : List Goroutine) (lacks : List (Option Shortage)) (zip : AllZip (HasPassedWith T pass.before c.me.0.seen) gos lacks)
       (of : (go : Goroutine) → In gos go → In h.after go) (are : (go : Goroutine) → In h.after go → In gos go) where
     numbered_by : (go : Goroutine) → In gos go → go.number ≡ number_of go.actor.seat.me
@@ -230,7 +232,7 @@ module _ (before c : Crew) (passed : Passed) (left : Left) (words : List ℕ) (e
       (all_passed h.after s.lacks s.passes same_list same_list)
       (λ g d has. none_lack h.after s.lacks (λ l t. All-contains (λ lack. lack ≡ None) s.lacks l s.are (contains_of s.lacks l t)) g)
 
-  -- where one lacks this
+  -- if one lacks this
   module _ (why : Shortage) (s : AllStoodStill c.run pass.before c.me.0.seen pass.looked h.after (Lacks why)) where
     one : (go : Goroutine) × In h.after go × HasPassedWith T pass.before c.me.0.seen go (Some why)
     one = lacking (HasPassedWith T pass.before c.me.0.seen) h.after s.lacks s.passes (Some why) (in_of s.lacks (Some why) s.are)

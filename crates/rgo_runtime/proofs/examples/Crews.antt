@@ -1,4 +1,4 @@
--- Members that a driver keeps, and such as it loses; goroutines that have retired.
+-- Examples of members that a driver keeps, of members that it loses, and of goroutines that have retired.
 use Rattle.std.proofs.Common.{◌≡◌, ◌⊎◌, inl, inr, ⊎_elim, ℕ, zero, suc, ◌≤◌, Bool, false, List, [], ◌∷◌, ◌++◌, All, IsPermutation, Option, Some, None, length, map, slice_get, refl, ap, sym, subst, ◌∙◌, arith}
 use Rattle.std.specs.List.{AllZip}
 use Rattle.std.proofs.lemmas.List.Elements.{All-head, All-nil}

@@ -32,7 +32,7 @@ none_before_none : (before since : List Access) → [] ≡ before ++ since → b
 none_before_none [] since is = refl
 none_before_none (a ∷ before) since is = cc is
 
--- why a turn was over tells one thing
+-- why a turn was over implies one result only
 one_lack : (why : TableTurnEnd) → Tells why None → Tells why (Some Pages) → ⊥
 one_lack stop.Went p q = p
 one_lack (stop.Blocked at) p q = cc q

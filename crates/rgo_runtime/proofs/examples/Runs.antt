@@ -1,4 +1,4 @@
--- What a driver knows while it plays, why it ends a run, and what must not pass for it.
+-- Examples of what a driver knows in a run, of why it ends one, and of what must not count as such.
 use mathlib.Core.Option.{some-ne-none}
 use Rattle.std.proofs.Common.{◌≡◌, ℕ, true, false, List, [], Option, None, Some, refl, sym, subst, ◌∙◌, append-nil, arith}
 use Rattle.std.specs.Io.KnownBytes.{Appends}

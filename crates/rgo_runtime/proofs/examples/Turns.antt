@@ -1,4 +1,4 @@
--- Turns that are as their definitions say, and such as are not.
+-- Examples of turns that are as their definitions say, and of some that are not.
 use Rattle.std.proofs.Common.{◌≡◌, Some, None, refl, ap, sym, ◌∙◌, arith}
 use Rattle.rgo_runtime.specs.Turns.{Turn, TurningExamples}
 

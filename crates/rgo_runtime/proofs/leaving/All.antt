@@ -1,4 +1,5 @@
--- Gone: goroutines leave one after the other, and their driver has the records of all.
+-- Goroutines leave one after the other, and their driver has the records of all. `HaveLeft` of two lists, one after the other, is that of
+-- both (`both_left`), so each loop adds one goroutine. What is said if nothing is lost is kept apart from what is said in any case.
 use Rattle.std.proofs.Common.{◌≡◌, ℕ, true, false, List, [], ◌∷◌, ◌++◌, All, IsPermutation, length, map, reverse, refl, ap, sym, subst, ◌∙◌, append_assoc, append-nil, arith, true≢false}
 use Rattle.std.proofs.lemmas.List.{length-append, map-append, reverse-append}
 use Rattle.std.proofs.lemmas.List.Elements.{All-head, All-nil, All-push}
@@ -52,7 +53,7 @@ members_after a b c keeps others taken k =
 
 -- ---- some leave, and then others
 
--- those that have retired
+-- the members that have retired
 abbrev rows_in : Left → List Member
 rows_in left = map retired left.seat.me.0.records
 
@@ -177,7 +178,7 @@ module _ (r : Run) (go : Goroutine) (old new : Left) (own : new.seat.table_id �
         retired = are_retired;
       }
 
--- ---- lists of which the last goes first
+-- ---- lists whose last element goes first
 
 module _ {A : Type 0} (P : A → Type 0) (xs left : List A) where
   -- what holds of all holds of the last
@@ -215,7 +216,7 @@ none_left T gos gone before old new is none left =
     let same : gos ≡ gone = is ∙ (ap (λ l. gone ++ reverse l) none ∙ append-nil gone) in
     subst (λ (l : List Goroutine). HaveLeft T l old new) (sym same) left
 
--- those of a group leave, which are the last of those that are parked
+-- the goroutines of a group leave, which are the last of those that are parked
 pub group_gone : (gos gone before left group : List Goroutine) → IsPermutation gos (gone ++ before) → before ≡ left ++ group
     → IsPermutation gos ((gone ++ reverse group) ++ left)
 group_gone gos gone before left group is last =

@@ -1,4 +1,5 @@
--- What is kept when goroutines retire and when they are given up.
+-- What is kept when goroutines retire and when they are given up: `AreRetired` of the longer rows, and nobody is lost. The hard case is one
+-- that is given up: its children come with it, and they have no place among the shares. They have counted nothing, so that none is needed.
 use Rattle.std.proofs.Common.{◌≡◌, ◌⊎◌, inl, inr, ⊎_elim, ℕ, zero, suc, ◌<◌, ◌≤◌, Bool, true, false, nat_eq, List, [], ◌∷◌, ◌++◌, get_or, length, map, replicate, Option, Some, None, slice_get, slice_set, refl, ap, sym, subst, ◌∙◌, arith}
 use Rattle.std.specs.Option.{MatchOption}
 use Rattle.std.proofs.lemmas.List.{map-append}
@@ -66,7 +67,7 @@ module _ {A : Type 0} where
   pub in_list : (xs : List A) (x : A) → (i : ℕ) × (slice_get xs i ≡ Some x) → In xs x
   in_list xs x t = (t.0, elem_of xs t.0 x t.1)
 
-  -- where the first goes behind some others
+  -- the first goes after some others
   pub moved : (xs ys : List A) (z x : A) → In (z ∷ (xs ++ ys)) x → In ((xs ++ z ∷ []) ++ ys) x
   moved xs ys z x t = ⊎_elim
       (λ (e : z ≡ x). subst (In ((xs ++ z ∷ []) ++ ys)) e (in_left (xs ++ z ∷ []) ys z (the_middle xs [] z)))
@@ -109,7 +110,7 @@ set_past (y ∷ xs) (suc i) x l = ap (λ (ys : List _). y ∷ ys) (set_past xs i
 
 -- ---- rows
 
--- the end mark of a goroutine, and how the run has ended before and after that was noted
+-- the end mark of a goroutine, and how the run has ended before and after that was recorded
 abbrev pub Noted : Option Mark → (old new : Option Mark) → Type 0
 Noted its old new = ((its ≡ None) × (new ≡ old)) ⊎ ((mark : Mark) × (its ≡ Some mark) × (new ≡ Some mark))
 
@@ -137,7 +138,7 @@ beyond shares g e = ⊎_elim
     (λ (l : (length shares ≤ g) × (slice_get shares g ≡ None)). l.0)
     (slice_get_cases shares g).1
 
--- where a row that has counted nothing comes
+-- a row comes that has counted nothing
 module _ (rs all : Rows Record) (shares : List Counts) (of_old : (g : ℕ) (d : Record) → HasRow rs g d → HasRow all g d)
     (others : (g : ℕ) (share : Counts) → slice_get shares g ≡ Some share → Belongs rs g share) (g : ℕ) (d : Record) (has : HasRow all g d)
     (none : d.clock.share ≡ no_share) where
@@ -295,7 +296,7 @@ one_retires m rs r is others given k =
       before = λ d t. t;
     })
 
--- m becomes n and goes behind the old ones, and what it has started and is not adopted comes with it or stays so
+-- `m` becomes `n` and goes after the old ones; what it has started and was not adopted comes with it, or is still not adopted
 module _ (m n : Member) (old kids others : List Member) (taken : List Drawn) (number : n.number ≡ m.number) (its : n.its ≡ m.its)
     (all : (h : ℕ) → ListHasNumber m.unborn h → SomeHasNumber kids h ⊎ ListHasNumber n.unborn h) (new : (x : Member) → IsOneOf kids x → x.its.clock ≡ blank)
     (k : NobodyIsLost (m ∷ (old ++ others)) taken) where
@@ -421,7 +422,7 @@ row_numbered rs h (m, one, is) =
     let r = row_of rs m one in
     (r.1, subst (λ (g : ℕ). HasRow rs g r.1) (sym (ap (λ (y : Member). y.number) r.3) ∙ is) r.2)
 
--- where all have retired or were given up
+-- if all have retired or were given up
 pub family_left : (v : View Record) (taken : List Drawn) → NobodyIsLost (map retired v.records) taken
     → HasFamily v × ((d : Drawn) → IsDrawnIn taken d → (d.is_void ≡ false) × SomePrinted v.records d)
 family_left v taken k = (

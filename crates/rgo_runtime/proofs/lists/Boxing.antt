@@ -1,4 +1,5 @@
--- What boxes contain, when one of them changes.
+-- What boxes contain, when one of them changes. The driver has its goroutines in boxes, and the definitions speak of the goroutines: each
+-- lemma moves a fact through `in_boxes`.
 use Rattle.std.proofs.Common.{◌≡◌, ◌<◌, ℕ, List, [], ◌∷◌, ◌++◌, Box, get_or, length, set, subst, sym, ◌∙◌, arith}
 use Rattle.std.specs.List.{All}
 use Rattle.std.proofs.lemmas.List.{get_or-map, length-map, map-append, map-set}

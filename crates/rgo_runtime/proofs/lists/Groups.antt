@@ -1,4 +1,5 @@
--- Groups: what the pairs of groups are after a group was begun, has grown, or was emptied.
+-- What the pairs of groups are after a group was begun, has grown, or was emptied. Induction over the groups: the one of the address
+-- changes, and those after it have other addresses, since the map has each address once (`IsDistinct`).
 use Rattle.std.proofs.Common.{◌≡◌, ◌==◌, ℕ, Bool, true, false, cond, not, List, [], ◌∷◌, ◌++◌, Some, None, IsPermutation, Vec, filter, map, nat_eq, refl, sym, ap, ◌∙◌, subst, append_assoc, append-nil, ◌+◌, arith, length, length-append}
 use Rattle.std.specs.List.{AllByRecursion, IsDistinct}
 use Rattle.std.specs.Map.{keys_of, lookup, set_value}
@@ -199,7 +200,7 @@ module _ {T A : Type 0} where
 
   -- ---- all groups
 
-  -- of the groups, some have come to the end of a list, and the others are left
+  -- some groups have come to the end of a list, and the others are left
   pub record Moved (groups : List (ℕ × Vec T A)) (old : List T) (left : List (ℕ × Vec T A)) (new : List T) : Type 0 where
     pub more : List T
     pub come : new ≡ old ++ more

@@ -1,4 +1,5 @@
--- Lists of shares: one more place, and their sums.
+-- Lists of shares: one more place, and their sums. A sum is bounded by the number of shares times 2^64, so that the loop of `total` does
+-- not overflow.
 use Rattle.std.proofs.Common.{◌≡◌, ◌+◌, ◌*◌, ◌<◌, ◌≤◌, ℕ, List, [], ◌∷◌, ◌++◌, append_assoc, drop, get_or, length, replicate, ap, sym, ◌∙◌}
 use Rattle.std.proofs.lemmas.List.{at_drop_all, at_drop_more, replicate_more}
 use Rattle.rgo_core.proofs.goroutines.Counting.{plus_assoc, plus_none}

@@ -1,4 +1,5 @@
--- Sweeps: loops that change the elements of a list one after the other.
+-- Loops that change the elements of a list one after the other: the first `i` have changed and the others have not (`Swept`). `swept_part`
+-- is for loops that end early, which an allocation failure may make any of them do.
 use Rattle.std.proofs.Common.{◌≡◌, ◌+◌, ◌<◌, ◌≤◌, ℕ, suc, List, [], ◌∷◌, ◌++◌, length, take, drop, set, get_or, refl, sym, ap, ◌∙◌, subst, arith, length-set}
 use Rattle.std.specs.List.{All, AllZip}
 use Rattle.std.proofs.lemmas.List.{drop-set-lt, drop_more, take-append-drop, take_all, take_more, take_more_set}

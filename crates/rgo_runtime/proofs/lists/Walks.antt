@@ -1,4 +1,6 @@
--- Walks: a walk over prints in the order of their tickets, in which those whose turn it is go out and the others are kept.
+-- A walk over prints in the order of their tickets, in which those whose turn it is go out and the others are kept. `Walk` is the loop's
+-- invariant. `below` is why one walk is enough: a print that was kept has a ticket no greater than those still to come, so it does not
+-- become the next when one of those goes out.
 use Rattle.std.proofs.Common.{◌≡◌, ◌+◌, ◌<◌, ◌≤◌, ℕ, suc, List, [], ◌∷◌, ◌++◌, All, Contains, IsPermutation, Option, length, take, drop, set, get_or, refl, sym, ap, ◌∙◌, subst, append_assoc, append-nil, arith, length-append, length-set, drop-cons, ⊎_elim, add-one, add-zero}
 use Rattle.std.specs.Io.KnownBytes.{Appends}
 use Rattle.std.specs.List.{swap}
@@ -18,7 +20,7 @@ use Rattle.rgo_table_runs.specs.Goroutine.Acts.declared.prints.Print.{Print}
 abbrev pub NotAfter : List Print → Print → Type 0
 NotAfter rest print = All (λ q. print.ticket ≤ q.ticket) rest
 
--- of all prints, some have gone out, some are kept, and the rest is still to be looked at
+-- Some of the prints have gone out, some are kept, and the rest is still to come.
 pub record Walk
     (prints : List Print) (from : ℕ) (kept rest : List Print) (next : ℕ) (before now : Option (List ℕ))
     : Type 0 where
@@ -75,7 +77,7 @@ module _
       Contains-permutation (walk.given ++ (kept ++ x ∷ rest)) prints x (IsPermutation-sym _ _ walk.all)
       (Contains-append_right walk.given (kept ++ x ∷ rest) x (Contains-append_right kept (x ∷ rest) x (Contains-get_or (x ∷ rest) 0 x (omega arith))))
 
-  -- with the print x after those that went out
+  -- the print `x` comes after those that went out
   moved : IsPermutation prints ((walk.given ++ x ∷ []) ++ (kept ++ rest))
   moved =
       IsPermutation-trans _ _ _ walk.all

@@ -1,4 +1,6 @@
--- Passes of a crew: its goroutines come out of their turns, have a pass, and come back, and nobody is lost by it.
+-- A crew has a pass: its goroutines come out of their turns, have the pass, and come back, and nobody is lost by it. `pass_keeps` carries
+-- what each of the three parts of a pass keeps through all of them. The lists come out and back with the last element first, so the order
+-- is that of before.
 use Rattle.std.proofs.Common.{◌≡◌, ◌<◌, ◌-◌, inl, inr, ℕ, List, [], ◌∷◌, ◌++◌, All, IsPermutation, None, Some, length, map, reverse, take, refl, ap, sym, subst, ◌∙◌, append_assoc, append-nil, arith}
 use Rattle.std.proofs.lemmas.List.{map-append, map-id, reverse-append, take-append-le, take_all}
 use Rattle.std.proofs.lemmas.List.Elements.{All-head, All-map, All-tail, All-weaker}
@@ -26,7 +28,7 @@ use Rattle.rgo_runtime.proofs.lists.Sweeps.{all_both, zip_keeps, zip_length}
 -- ---- from one list to another, the last first
 
 module _ {A B : Type 0} (f : A → B) (xs ys : List A) (x : A) (y : B) (done all : List B) (last : xs ≡ ys ++ x ∷ []) (is : y ≡ f x) where
-  -- what comes next stands after what has come
+  -- the next element comes after those that have come
   one_more : (rest : List B) → done ++ f x ∷ rest ≡ all → (done ++ y ∷ []) ++ rest ≡ all
   one_more rest so_far = append_assoc done (y ∷ []) rest ∙ (ap (λ (z : B). done ++ z ∷ rest) is ∙ so_far)
 
@@ -138,7 +140,7 @@ turning_is r n (t ∷ ts) all =
 in_turns : (r : Run) (gos : List Goroutine) → map its_goroutine (map (first_turn r) gos) ≡ gos
 in_turns r gos = map-map its_goroutine (first_turn r) gos ∙ map-id gos
 
--- the goroutines of c came out of their turns as `before`, had a pass, and came back as `after`
+-- The goroutines of `c` came out of their turns as `before`, had a pass, and came back as `after`. Each field is a clause of one of three calls.
 pub record CrewHasPassed (c : Crew) (before after : List Goroutine) (table : TableId) (me : Me Record) (ready : List Turn)
     (passed : Passed) : Type 0 where
   pub out : before ≡ reverse (map its_goroutine c.ready)

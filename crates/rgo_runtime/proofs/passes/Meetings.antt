@@ -1,4 +1,6 @@
--- Passing: what a goroutine and its driver have seen after they have met.
+-- What a goroutine and its driver have seen after they have met. A meeting gives both the longer of the two lists. A goroutine that was
+-- behind has then seen what the driver had, so what it does until the next meeting comes right after that: the driver's list only grows
+-- (`after_is`).
 use Rattle.std.proofs.Common.{◌≡◌, ◌<◌, ◌≤◌, ℕ, Bool, true, false, ltb, if◌then◌else◌, List, [], ◌∷◌, ◌++◌, length, refl, sym, ap, ◌∙◌, subst, append_assoc, arith, length-append}
 use Rattle.std.specs.List.{All}
 use Rattle.std.proofs.lemmas.Bool.Decides.{nat_tests}
@@ -68,7 +70,7 @@ now_behind T old new before after m =
     let a : length (seen_by new) ≡ length after = ap length (m.seen ∙ sym m.seat) in
     omega (arith, a)
 
--- who was behind still is
+-- whoever was behind still is
 pub still_behind : (before after : List Access) → length before ≤ length after → (gos : List Goroutine) → All (IsBehind before) gos
     → All (IsBehind after) gos
 still_behind before after more gos all = All-weaker (IsBehind before) (IsBehind after) (λ go l. omega (arith, l, more)) gos all
@@ -93,7 +95,7 @@ all_known_after T before after es more gos all =
 
 -- ---- accesses between two meetings
 
--- a goroutine that was behind has met its driver, has then seen the accesses es more, and has met it again
+-- a goroutine that was behind has met its driver, has then seen the accesses `es` as well, and has met it again
 pub record MeetsAgain (T : Setup) (a b c d : Goroutine) (before between after es : List Access) : Type 0 where
   pub first : Meets T a b before between
   pub more : seen_by c ≡ seen_by b ++ es
@@ -154,7 +156,7 @@ module _ (r : Run) (a b c d : Goroutine) (before between after : List Access) (e
 -- ---- a glance of the driver
 
 module _ (m w : Me Record) (n : ℕ) (glanced : Glanced accesses m n w) where
-  -- who was behind still is
+  -- whoever was behind still is
   pub behind_glance : (gos : List Goroutine) → All (IsBehind m.0.seen) gos → All (IsBehind w.0.seen) gos
   behind_glance gos all =
       let now : List Access = glance Load n ∷ [] in

@@ -1,3 +1,4 @@
+-- A round of the loop changes one element, so that `All-set` carries the list; the failing way needs the same step as the other.
 use Rattle.std.proofs.lemmas.List.Elements.{All-set}
 use Rattle.rgo_goroutine.specs.Goroutines.{IsOf}
 use Rattle.rgo_crew.proofs.crew.collect_all.Goals as goal

@@ -1,3 +1,4 @@
+-- A look changes one element of the slice, and the call keeps that one of the run.
 use Rattle.std.proofs.lemmas.List.Elements.{All-set}
 use Rattle.rgo_goroutine.specs.Goroutines.{IsOf}
 use Rattle.rgo_crew.proofs.crew.look.Goals as goal

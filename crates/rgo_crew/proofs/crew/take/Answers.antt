@@ -1,3 +1,4 @@
+-- What is left is the front of the list and the rest after the place that was taken: both keep what holds of all.
 use Rattle.std.proofs.Common.{◌+◌, ◌++◌, take, drop}
 use Rattle.std.proofs.lemmas.List.Elements.{All-append, All-drop, All-same, All-take}
 use Rattle.rgo_goroutine.specs.Goroutines.{IsOf}

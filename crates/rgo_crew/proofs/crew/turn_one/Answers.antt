@@ -1,3 +1,4 @@
+-- Each way out changes at most the element at `place`. The ways differ in the call that was last, whose clause `of` is used.
 use Rattle.std.proofs.lemmas.List.Elements.{All-set}
 use Rattle.rgo_goroutine.specs.Goroutines.{IsOf}
 use Rattle.rgo_crew.proofs.crew.turn_one.Goals as goal

@@ -1,3 +1,4 @@
+-- The ledger of the driver is that of the blank it was made with, which no other thread has.
 use Rattle.rgo_crew.proofs.driving.drive.Given as goal
 
 abbrev pub ghosts-play_out : goal.ghosts-play_out

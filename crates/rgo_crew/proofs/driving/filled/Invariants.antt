@@ -1,3 +1,4 @@
+-- The count is at most the place, so it does not overflow.
 use Rattle.std.proofs.Common.{◌≤◌}
 use Rattle.rgo_crew.proofs.driving.filled.Given as goal
 

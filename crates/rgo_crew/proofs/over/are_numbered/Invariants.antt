@@ -1,3 +1,4 @@
+-- Tickets below the place are their places; the loop leaves at the first that is not.
 use Rattle.std.proofs.Common.{◌≡◌, ◌<◌, ℕ, Some, slice_get}
 use Rattle.rgo_goroutine.specs.Acts.declared.prints.Print.{Print}
 use Rattle.rgo_crew.proofs.over.are_numbered.Given as goal

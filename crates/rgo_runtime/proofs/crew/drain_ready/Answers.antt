@@ -1,3 +1,5 @@
+-- `pop` takes the last, so the goroutines come out in reverse. What `refill_ready` requires of each (`MayTurn`) is what the invariant of
+-- its turn says (`CanTurn`).
 use Rattle.std.proofs.Common.{◌∙◌, ◌++◌, [], Some, ap, append-nil, arith, map, refl, reverse}
 use Rattle.std.proofs.lemmas.List.Elements.{All-nil, All-pop, All-push, All-same}
 use Rattle.rgo_runtime.specs.Boxes.{in_boxes}

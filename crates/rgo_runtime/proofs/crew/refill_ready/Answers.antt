@@ -1,3 +1,5 @@
+-- The last comes back first, so the order is that of before. `MayTurn` of each is what `Turn::new` requires; the queue kept its capacity,
+-- so each push has room.
 use Rattle.std.proofs.Common.{◌≡◌, ◌∙◌, List, [], ◌∷◌, ◌++◌, All, Some, ap, append-nil, arith, length, map, reverse}
 use Rattle.std.proofs.lemmas.List.Elements.{All-pop}
 use Rattle.rgo_table_runs.specs.Goroutine.Acts.Runs.{Run}

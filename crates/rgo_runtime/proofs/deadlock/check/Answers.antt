@@ -1,3 +1,5 @@
+-- The four parts in a row. The driver's glance comes before the looks, so that at `before` the accesses of those that have retired are
+-- known, too.
 use Rattle.std.proofs.Common.{◌∙◌}
 use Rattle.rgo_runtime.specs.Boxes.{in_boxes}
 use Rattle.rgo_runtime.specs.Passing.{HasLookedOnce, HasMet, IsTidyIn}

@@ -1,3 +1,5 @@
+-- `behind` holds of all, since all have met before; `known` only of those that have looked. What the driver has seen only grows (`seen`),
+-- so what was known stays known.
 use Rattle.std.proofs.Common.{◌≡◌, ◌++◌, List, take}
 use Rattle.std.specs.List.{All}
 use Rattle.rgo_core.specs.Rule.declared.accesses.Access.{Access}

@@ -1,3 +1,5 @@
+-- Only the first `i` are known to be behind: a later meeting adds to what the driver has seen, so who was behind stays so. That is also why
+-- `behind` speaks of the driver now, and not at the start.
 use Rattle.std.proofs.Common.{◌≡◌, take}
 use Rattle.std.specs.List.{All}
 use Rattle.rgo_table_runs.specs.Goroutine.Goroutines.{IsOf}

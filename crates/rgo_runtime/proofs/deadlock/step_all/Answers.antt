@@ -1,3 +1,6 @@
+-- Three ways: a turn that moved ends the loop, and then only what holds of each goroutine is left to show; one that stood still adds one
+-- goroutine to those that have passed; at the end all have. The element that changes is in a box, so each fact goes through `in_box` and
+-- `boxes_set`.
 use Rattle.std.proofs.Common.{◌<◌, ◌≤◌, ◌++◌, ◌∙◌, ◌∷◌, [], List, ap, append_assoc, arith, get_or, length, set, subst, sym, take}
 use Rattle.std.proofs.lemmas.List.{take_all, take_more_set}
 use Rattle.std.proofs.lemmas.List.Elements.{All-get_or, All-set}

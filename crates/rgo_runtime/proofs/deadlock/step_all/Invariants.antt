@@ -1,3 +1,5 @@
+-- So far all have stood still. What each lacks was found when the driver had seen less (`passed`); it stays so as long as nothing moves,
+-- which is why the loop leaves at the first move.
 use Rattle.std.proofs.Common.{◌≡◌, ◌++◌, List, take}
 use Rattle.std.specs.List.{All}
 use Rattle.rgo_core.specs.Rule.declared.accesses.Access.{Access}

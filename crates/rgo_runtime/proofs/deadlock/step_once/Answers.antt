@@ -1,3 +1,5 @@
+-- The turn lies between two meetings, so `turns_between` applies. Without a turn nothing has changed, and `Moved` asks for nothing but that
+-- it had none.
 use Rattle.std.proofs.Common.{◌≡◌, ◌<◌, ◌≤◌, ◌^◌, ◌∙◌, ap, arith}
 use Rattle.rgo_core.specs.Records.{steps_of}
 use Rattle.rgo_table_runs.specs.Goroutine.Goroutines.{record_of_goroutine}

@@ -1,3 +1,4 @@
+-- The new pair is in the middle of the list of pairs, after those of its group. Hence a permutation, and no equation.
 use Rattle.std.proofs.Common.{◌∙◌, ◌++◌, ◌∷◌, [], ap, sym}
 use Rattle.std.proofs.lemmas.List.Sorted.{IsPermutation-to_front}
 use Rattle.rgo_runtime.specs.Parking.{pairs_of}

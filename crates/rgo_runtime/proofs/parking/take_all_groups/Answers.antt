@@ -1,3 +1,4 @@
+-- The room that the caller reserved is for the values of all groups that are left, so `append` succeeds (`unwrap-requires`).
 use Rattle.std.proofs.Common.{◌≡◌, ◌∙◌, ◌+◌, ◌++◌, ap, arith, length, rules, vec_len}
 use Rattle.rgo_runtime.specs.Parking.{pairs_of}
 use Rattle.rgo_runtime.proofs.lists.Groups.{length_last, moved_more}

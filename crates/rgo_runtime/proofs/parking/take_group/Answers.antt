@@ -1,3 +1,5 @@
+-- If the group is found, its values are all those at the address, since the map has each address once; if none is found, there are
+-- none, and nothing changes.
 use Rattle.std.proofs.Common.{◌∙◌, ap, append-nil, sym, length}
 use Rattle.rgo_runtime.specs.Parking.{pairs_of}
 use Rattle.rgo_runtime.proofs.lists.Groups.{emptied, found_at, kept, none_at, none_elsewhere}

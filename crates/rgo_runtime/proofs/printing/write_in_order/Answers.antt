@@ -1,3 +1,5 @@
+-- One step of the walk in each arm. A kept print is swapped to the front; what comes after `i` stays, so the rest of the walk is still
+-- sorted. A failed write leaves the walk where it is, and the first bytes of one print more have gone out.
 use Rattle.std.proofs.Common.{◌≡◌, ◌+◌, ◌<◌, ◌∙◌, ◌∷◌, arith, drop, length}
 use Rattle.rgo_runtime.proofs.lists.Walks.{drop-at, drop-swap, pieces_more, take-swap, walk_fault, walk_given, walk_has, walk_kept}
 use Rattle.rgo_runtime.proofs.printing.write_in_order.Goals.{then-from-next+in-Ok, else-from-next}

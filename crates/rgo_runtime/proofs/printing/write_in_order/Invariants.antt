@@ -1,3 +1,5 @@
+-- The walk over the prints: those below `kept` were kept, those from `i` on are still to come, and in between are prints that went out,
+-- which `truncate` drops.
 use Rattle.std.proofs.Common.{◌≡◌, ◌≤◌, drop, take, vec_len}
 use Rattle.rgo_outside.specs.Pieces.{AddsOnly}
 use Rattle.rgo_runtime.specs.Printing.{IsPieceOf}

@@ -1,3 +1,5 @@
+-- The goroutine adds its row and those of its children, which were not adopted. They have counted nothing (`children_new`), so no share is
+-- missing.
 use Rattle.std.proofs.Common.{refl}
 use Rattle.rgo_table_runs.specs.Goroutine.Goroutines.{record_of_goroutine, rows_of_children}
 use Rattle.rgo_runtime.proofs.leaving.One.{children_new, given_up, noted, retired_either}

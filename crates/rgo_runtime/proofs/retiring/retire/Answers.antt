@@ -1,3 +1,4 @@
+-- The goroutine adds one row and no children. Since nothing is left to gather or adopt, it is as a member the row itself (`as_row`).
 use Rattle.std.proofs.Common.{[], ap, map}
 use Rattle.rgo_table_runs.specs.Goroutine.Goroutines.{drawn_by, numbers, record_of_goroutine}
 use Rattle.rgo_runtime.proofs.leaving.One.{as_row, none_in, noted, one_retires, retired_more}

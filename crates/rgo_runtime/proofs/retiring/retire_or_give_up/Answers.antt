@@ -1,3 +1,4 @@
+-- What `is_empty` and `has_place` found is what `retire` requires; else `give_up` requires less. `is_whole` stays only in the first case.
 use Rattle.std.proofs.Common.{◌≡◌, ◌∙◌, ap, arith, length, refl, sym, true≢false}
 use Rattle.std.proofs.lemmas.Bool.Decides.{nat_tests}
 use Rattle.rgo_runtime.specs.Leaving.{IsEmptied}

@@ -1,3 +1,5 @@
+-- All were woken, so the run queue has all that have not retired, and a pass over it is one of the whole run. `NoneIsNext` stays, since no
+-- print was gathered meanwhile.
 use Rattle.std.proofs.Common.{◌∙◌, ap}
 use Rattle.rgo_runtime.proofs.crews.Moving.{kept_then}
 use Rattle.rgo_runtime.proofs.ending.Playing.{goes_quietly, is_stuck, passes}

@@ -1,3 +1,4 @@
+-- The driver's reason, what all have left, and the closed table come together here: `Running` has the lemma for each of the clauses.
 use Rattle.std.proofs.Common.{ap, ◌∙◌}
 use Rattle.rgo_core.specs.runs.Plans.{setup_of}
 use Rattle.rgo_table_runs.specs.Goroutine.Acts.Runs.{Run}

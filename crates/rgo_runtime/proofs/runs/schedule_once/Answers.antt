@@ -1,3 +1,5 @@
+-- A round, a flush and the test of the end, one after the other. The round prints nothing (`goes_quietly`), the flush does (`goes_out`),
+-- and after it none of the prints that wait is the next (`none_next`).
 use Rattle.rgo_runtime.specs.declared.runs.Why.TheVariants.{Write}
 use Rattle.rgo_runtime.proofs.ending.Playing.{comes_then, ends_then, fails, goes_out, goes_quietly, goes_then, none_next}
 use Rattle.rgo_runtime.proofs.runs.schedule_once.Goals as goal

@@ -1,3 +1,4 @@
+-- What was joined so far and the bytes of the prints that follow are always the whole.
 use Rattle.std.proofs.Common.{◌≡◌, ◌++◌, drop}
 use Rattle.rgo_crew.specs.Overs.{joined_prints}
 use Rattle.rgo_crew.proofs.over.Over.printed.Given as goal

@@ -1,7 +1,9 @@
+-- The goroutines come out, have the pass, and come back: `CrewHasPassed` has what the three calls ensure, and every clause follows from it.
+-- In the meantime the crew has no goroutine in its queue, and its invariant is claimed only when they are back.
 use Rattle.std.proofs.Common.{◌∙◌, All, ap, length, map, reverse, subst, sym}
 use Rattle.rgo_runtime.specs.Boxes.{in_boxes}
-use Rattle.rgo_runtime.specs.Crew.{Crew}
 use Rattle.rgo_runtime.specs.Crews.{MayTurn}
+use Rattle.rgo_runtime.specs.CrewView.{crew_view}
 use Rattle.rgo_runtime.specs.Turns.{first_turn}
 use Rattle.rgo_runtime.proofs.lists.Boxing.{boxes_length}
 use Rattle.rgo_runtime.proofs.passes.Crews.{CrewHasPassed, all_passed, crew_passed, pass_length, pass_may_turn, passed_kept, written_back}
@@ -25,24 +27,9 @@ refill_ready-requires-clause-rest c =
     subst (λ bs. All (MayTurn r) (in_boxes bs)) (sym (written_back c.in_ok-goroutines.goroutines.len boxes _ long))
     (pass_may_turn r me before after passed its.passed its.all its.tidy may)
 
--- the crew as it was
-abbrev crew : goal.After-refill_ready → Crew
-crew c = record {
-  run = c.self.inside.run.now;
-  table = c.self.inside.seat.table_id;
-  me = c.self.inside.seat.me;
-  ready = c.self.inside.ready.items;
-  parked = c.self.inside.parked;
-  born = c.self.inside.born.items;
-  waiting = c.self.inside.prints.waiting.items;
-  next = c.self.inside.prints.next;
-  shares = c.self.inside.shares;
-  first = c.self.inside.first;
-}
-
 -- what has happened to those that were ready
 crew_has_passed : (c : goal.After-refill_ready)
-    → CrewHasPassed (crew c) (in_boxes c.as_mut_slice.result.now) (in_boxes c.check_uncounted-passed.new.goroutines)
+    → CrewHasPassed (crew_view c.self.inside) (in_boxes c.as_mut_slice.result.now) (in_boxes c.check_uncounted-passed.new.goroutines)
     c.check_uncounted-passed.new.seat.table_id
     c.check_uncounted-passed.new.seat.me c.refill_ready.new.ready.items c.check_uncounted-passed.result
 crew_has_passed c =

@@ -1,3 +1,5 @@
+-- One goroutine more has given what it had (`one_changes`), whether or not the call succeeded: an error leaves the loop with the same
+-- clause.
 use Rattle.std.proofs.Common.{◌<◌, ap, arith, length}
 use Rattle.rgo_runtime.proofs.crews.Steps.{one_changes}
 use Rattle.rgo_runtime.proofs.crew.Crew.collect_all.Goals as goal
@@ -11,7 +13,7 @@ returns-in_err-collect-clause-kept c =
     let within : c.loop-i.i < length ready = omega (arith, c.loop-i-test.true, c.loop-i.invariant.end, changes.len) in
     let its = c.collect.ensures in
     (one_changes _ _ c.loop-i.i x changes within c.index_mut.ensures.value y (ap (λ t. t.run) its.same) its.number (ap (λ t. t.turned) its.same) its.actor c.collect.new.born.items
-    c.collect.new.waiting.items its.born its.kept).kept
+    c.collect.new.queue.waiting its.born its.kept).kept
 
 pub loop-i-preserved : goal.loop-i-preserved
 loop-i-preserved c =
@@ -21,8 +23,9 @@ loop-i-preserved c =
     let changes = c.loop-i.invariant.changes in
     let within : c.loop-i.i < length ready = omega (arith, c.loop-i-test.true, c.loop-i.invariant.end, changes.len) in
     let its = c.collect.ensures in
-    record {
+    rw its.next
+    (record {
       end = c.loop-i.invariant.end;
       changes = one_changes _ _ c.loop-i.i x changes within c.index_mut.ensures.value y (ap (λ t. t.run) its.same) its.number (ap (λ t. t.turned) its.same) its.actor c.collect.new.born.items
-          c.collect.new.waiting.items its.born its.kept;
-    }
+          c.collect.new.queue.waiting its.born its.kept;
+    })

@@ -1,4 +1,5 @@
 use Rattle.std.proofs.Common.{◌≡◌, length}
+use Rattle.rgo_runtime.specs.CrewView.{crew_view}
 use Rattle.rgo_runtime.proofs.crews.Steps.{Changes}
 use Rattle.rgo_runtime.proofs.crew.Crew.collect_all.Given as goal
 
@@ -6,16 +7,5 @@ use Rattle.rgo_runtime.proofs.crew.Crew.collect_all.Given as goal
 abbrev pub invariant-loop-i : goal.invariant-loop-i
 invariant-loop-i l = record {
   end : l.i-end ≡ length l.fn.self.ready;
-  changes : Changes l.fn.self (record {
-    run = l.self-inside.run.now;
-    table = l.self-inside.seat.table_id;
-    me = l.self-inside.seat.me;
-    ready = l.self-inside.ready.items;
-    parked = l.self-inside.parked;
-    born = l.self-inside.born.items;
-    waiting = l.self-inside.prints.waiting.items;
-    next = l.self-inside.prints.next;
-    shares = l.self-inside.shares;
-    first = l.self-inside.first;
-  });
+  changes : Changes l.fn.self (crew_view l.self-inside);
 }

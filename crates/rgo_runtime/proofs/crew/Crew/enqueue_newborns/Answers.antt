@@ -1,3 +1,5 @@
+-- One goroutine more comes from `born` to the run queue, and gets a place for its counts. If there is no memory for it, it goes back to
+-- `born`, at the same end.
 use Rattle.std.proofs.Common.{◌∙◌, ◌∷◌, ◌++◌, [], append-nil, ap, arith, subst, sym}
 use Rattle.rgo_core.specs.Records.{steps_of}
 use Rattle.rgo_table_runs.specs.Goroutine.Goroutines.{IsOf, IsTidy, record_of_goroutine}

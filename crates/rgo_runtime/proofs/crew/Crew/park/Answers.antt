@@ -1,3 +1,5 @@
+-- Without memory the goroutine comes back to the queue, so that both ways are permutations of the run queue and the parked ones together;
+-- the rest follows from that (`crew_turns`, `turns_kept`).
 use Rattle.std.proofs.Common.{◌++◌, ◌∙◌, ◌∷◌, [], ap, arith, length}
 use Rattle.rgo_runtime.proofs.crews.Moving.{crew_turns, one_back, one_out, one_parked, turns_kept}
 use Rattle.rgo_runtime.proofs.crew.Crew.park.Goals as goal

@@ -1,3 +1,5 @@
+-- From the last place to the first: who leaves a place is replaced by the last of the queue, which was considered before or had no turn in
+-- the round. Every place stays in the queue, since each step removes at most one goroutine (`left`).
 use Rattle.std.proofs.Common.{◌∙◌, arith}
 use Rattle.rgo_runtime.proofs.crews.Moving.{kept_then}
 use Rattle.rgo_runtime.proofs.crew.Crew.park_and_retire.Goals as goal

@@ -1,3 +1,5 @@
+-- By `one_out` the queue is, in some order, the goroutine at `place` and those that are left. What the caller requires of it is moved along
+-- the equation of the view.
 use Rattle.std.proofs.Common.{◌∙◌, ap, arith, length, slice_index_or}
 use Rattle.rgo_runtime.proofs.crews.Moving.{crew_retired, one_out, retired_kept}
 use Rattle.rgo_runtime.proofs.crew.Crew.retire.Goals as goal

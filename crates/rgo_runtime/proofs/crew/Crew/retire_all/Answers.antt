@@ -1,3 +1,4 @@
+-- Three lists leave, one after the other; `crew_leaves` puts them together.
 use Rattle.std.proofs.Common.{refl}
 use Rattle.rgo_runtime.proofs.leaving.All.{crew_leaves}
 use Rattle.rgo_runtime.proofs.crew.Crew.retire_all.Goals as goal

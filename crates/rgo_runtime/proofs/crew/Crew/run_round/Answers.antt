@@ -1,3 +1,5 @@
+-- Each part keeps the crew, and `kept_then` joins two of them. An error may come after any part, so each way out has as many parts as were
+-- done.
 use Rattle.rgo_runtime.proofs.crews.Moving.{kept_then}
 use Rattle.rgo_runtime.proofs.crew.Crew.run_round.Goals as goal
 

@@ -1,3 +1,5 @@
+-- One turn more has its counts in the shares (`one_noted`). The goroutine has a place, since it is of the crew, and a snapshot has as many
+-- places as the crew.
 use Rattle.std.proofs.Common.{◌≡◌, ◌<◌, ◌∙◌, ap, arith, get_or, length, subst}
 use Rattle.rgo_table_runs.specs.Goroutine.Goroutines.{record_of_goroutine}
 use Rattle.rgo_sound.proofs.Places.{length_set}

@@ -3,7 +3,7 @@ use Rattle.rgo_runtime.specs.Crews.{AreRetired, end_mark}
 use Rattle.rgo_runtime.specs.Leaving.{turn_row}
 use Rattle.rgo_runtime.proofs.crew.Crew.snapshot.Given as goal
 
--- what those that have retired have counted, and those whose turns were passed
+-- the snapshot has what those have counted that have retired, and those before the place of the loop
 abbrev pub invariant-loop-turn : goal.invariant-loop-turn
 invariant-loop-turn l = record {
   places : length l.snapshot.shares ≡ length l.fn.self.shares;

@@ -1,3 +1,4 @@
+-- An empty group has no pairs, so to skip it changes neither the view nor `count`, which is the number of pairs.
 use Rattle.std.proofs.Common.{◌≡◌, ◌∙◌, ◌+◌, ap, arith, length, sym}
 use Rattle.std.proofs.lemmas.Bool.Decides.{nat_tests}
 use Rattle.rgo_runtime.specs.Parking.{pairs_of, parked_values}

@@ -1,3 +1,4 @@
+-- Those at the address and those elsewhere are together all, so that the count does not pass below zero and stays that of the view.
 use Rattle.std.proofs.Common.{ap, arith, length}
 use Rattle.rgo_runtime.specs.Parking.{pairs_of}
 use Rattle.rgo_runtime.proofs.lists.Groups.{parted}

@@ -1,3 +1,4 @@
+-- The room was reserved before the loop, so no push can fail. `end` is below the limit of the list, which its invariant needs.
 use Rattle.std.proofs.Common.{◌≡◌, ◌<◌, ◌≤◌, ◌-◌, ◌++◌, replicate, vec_capacity, vec_len}
 use Rattle.rgo_sound.specs.Tally.{no_share}
 use Rattle.rgo_runtime.proofs.shares.Shares.make_room.Given as goal
