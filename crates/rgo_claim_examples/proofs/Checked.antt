@@ -1,4 +1,5 @@
--- The code of `one_object` keeps the fourteen rules.
+-- The code of `one_object` keeps the fourteen rules. Most rules are about live variables, and for this code each variable is live only
+-- between its write and its read; so each rule is a case analysis on five instructions.
 use Rattle.std.proofs.Common.{◌≡◌, ◌↔◌, ◌⊎◌, inl, inr, ◌<◌, ◌≤◌, ◌+◌, ℕ, zero, suc, Bool, true, ◌&&◌, List, [], ◌∷◌, length}
 use Rattle.std.proofs.Common.{Option, Some, None, refl, sym, ap, subst, arith, true≢false, slice_get, Contains}
 use Rattle.std.specs.Prelude.{nat_lt}
@@ -34,7 +35,7 @@ use Rattle.rgo_claim_examples.specs.Programs.{node}
 
 -- ---- lists
 
--- each item of a list, with its number, is so
+-- a property of each item of a list, with its number
 abbrev pub AllAt : {X : Type 0} → (ℕ → X → Type 0) → List X → Type 0
 AllAt P [] = Unit {0}
 AllAt P (x ∷ xs) = P 0 x × AllAt (λ k. P (suc k)) xs

@@ -1,4 +1,4 @@
--- The three-address code of the programs.
+-- The three-address code of the programs, written out. That it is their code is proved in Lowered.antt.
 use Rattle.std.specs.Prelude.{ℕ, codes, pos, true, List, [], ◌∷◌, Option, Some, None}
 use Rattle.rgo_ast.specs.declared.ops.BinaryOp.TheVariants.{Add, Eq, Lt, Sub}
 use Rattle.rgo_typed.specs.declared.actions.Action.TheVariants as action

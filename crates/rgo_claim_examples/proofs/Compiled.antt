@@ -24,7 +24,7 @@ none k less = absurd (omega (arith, less))
 one : (x : ℕ) → IsStrictlyIncreasing (x ∷ [])
 one x k less = absurd (omega (arith, less))
 
--- an instruction from which one way leads
+-- an instruction with one way out
 one_way : (i next : ℕ) (instr : CodeInstr) (removes : List ℕ) → IsStrictlyIncreasing instr.creates
     → IsStrictlyIncreasing (protected_names instr.op) → edges instr.op i ≡ (next, removes) ∷ []
     → IsStrictlyIncreasing removes → InstrAscends i instr

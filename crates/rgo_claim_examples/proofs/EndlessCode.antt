@@ -1,4 +1,5 @@
--- The code of a program without names: `endless` is compiled to its three-address code alone.
+-- The code of a program without names: `endless` is compiled to its three-address code alone. With no pointer there is no class, so
+-- every rule on names holds because it has nothing to say.
 use Rattle.std.proofs.Common.{◌≡◌, ◌↔◌, ◌⊎◌, inl, inr, ℕ, zero, suc, List, [], ◌∷◌, ◌++◌, Some, None, refl, sym, subst}
 use Rattle.std.proofs.Common.{arith, true≢false, slice_get, Contains}
 use Rattle.std.specs.List.Sorted.{IsStrictlyIncreasing}

@@ -1,4 +1,5 @@
--- The examples of ends: single runs by computation, and what every run does by the search.
+-- The examples of ends: that a run exists is shown by computing one, and what every run does by the search over all of them
+-- (Search.antt).
 use Rattle.std.proofs.Common.{◌≡◌, ℕ, zero, suc, ◌==◌, Bool, true, false, List, [], ◌∷◌, Option, Some, None, refl, sym, ap}
 use Rattle.std.proofs.Common.{subst, true≢false, if◌then◌else◌}
 use Rattle.std.specs.Prelude.{bytes_eq}
@@ -40,7 +41,7 @@ goes_on e = true≢false (ap is_some e)
 
 -- ---- every run
 
--- whether a test is true of each state to which the code comes within the default limits, in less than ten steps
+-- whether a test is true of each state that the code reaches within the default limits, in fewer than ten steps
 abbrev always : Tac → (TacState → Bool) → Bool
 always code test = all_within (limited_step (tac code) default_options.limits) test 10 (tac_start code)
 

@@ -1,5 +1,6 @@
--- From the search to the claim: where each state that a program's code comes to has room, no run meets a limit, and none
--- wants more room than there is.
+-- From the search to the claim: if each state that a program's code reaches has room, no run meets a limit, and none needs more room
+-- than exists. The search is over runs of the three-address code, which are finitely many and short. Runs with regions are reached
+-- through them: each has the steps of one (PlainRuns.antt), and the bounds of rgo_sound depend only on those.
 use Rattle.std.proofs.Common.{◌≡◌, ℕ, zero, suc, ◌+◌, ◌-◌, ◌*◌, ◌/◌, ◌<◌, ◌≤◌, Bool, true, false, List, [], ◌∷◌, length}
 use Rattle.std.proofs.Common.{Option, Some, None, refl, ap, subst, arith, slice_get, if◌then◌else◌}
 use Rattle.std.specs.Prelude.{nat_le, nat_lt, option_and_then}
@@ -39,7 +40,7 @@ use Rattle.rgo_claim_examples.proofs.PlainRuns.{PlainRun, joined, plain_run}
 use Rattle.rgo_claim_examples.proofs.Quiet.{quiet, quiet_is_of, quiet_of, quiet_run, quiet_step}
 use Rattle.rgo_claim_examples.proofs.Search.{found}
 
--- what passes for all of a list passes at each place
+-- a test that passes for all of a list passes at each place
 pub all_at : {X : Type 0} (test : X → Bool) (xs : List X) (i : ℕ) (x : X) → list_all test xs ≡ true
     → slice_get xs i ≡ Some x → test x ≡ true
 all_at test [] i x all at = absurd cc
@@ -59,7 +60,7 @@ no_data_pages page_words object small =
     ap (λ b. if b then (cells object - 1) / page_words + 1 else 0) (not_spread page_words object small)
 
 module _ (options : RunOptions) (code : Tac) (steps : ℕ) where
-  -- what the search finds of a state
+  -- what the search finds about a state
   record HasRoom (t : TacState) (picks : List Pick) : Type 0 where
     short : length picks < steps
     shallow : (g : ℕ) (frames : List TacFrame) → slice_get t.goroutines g ≡ Some frames → length frames < deepest

@@ -1,4 +1,5 @@
--- Whether every run of some code is short and makes little, found by computation.
+-- Whether every run of some code is short and makes little, found by computation: the tests are written for evaluation, so that a proof
+-- about a program is one call of them.
 use Rattle.std.proofs.Common.{ℕ, ◌+◌, ◌*◌, max, Bool, ◌&&◌, List, [], ◌∷◌, length}
 use Rattle.std.specs.Prelude.{nat_le, nat_lt}
 use Rattle.std.specs.List.{list_all}

@@ -1,4 +1,5 @@
--- Each code is that of its program: where the code of each part begins, and where its value is.
+-- Each code is that of its program: where the code of each part begins, and where its value is. Lowering is defined as a relation, so
+-- for each node of the tree the proof names its piece of code.
 use Rattle.std.proofs.Common.{ℕ, [], ◌∷◌, refl}
 use Rattle.rgo_wellformed.specs.TypeRules.{int, pointer_to}
 use Rattle.rgo_lower.specs.Lowered.{IsLowered, LoweringPoint}

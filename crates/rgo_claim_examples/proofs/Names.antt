@@ -1,4 +1,5 @@
--- A function has no more region names than variables, and one for its result.
+-- A function has no more region names than variables, and one for its result: a bound on names that the search can compute without the
+-- list of names.
 use Rattle.std.proofs.Common.{ℕ, suc, max, ◌+◌, ◌≤◌, Bool, true, false, List, [], ◌∷◌, ◌++◌, length, map, arith}
 use Rattle.std.proofs.Common.{if◌then◌else◌, length-append}
 use Rattle.std.specs.List.{list_any}

@@ -1,4 +1,5 @@
--- A program that makes no object needs no page, no region and no room for an object.
+-- A program that makes no object needs no page, no region and no room for an object. Its code has no variable with a class, so no
+-- instruction creates a region, in no run, however long.
 use Rattle.std.proofs.Common.{◌≡◌, ◌+◌, ◌*◌, ℕ, suc, max, Bool, true, false, not, ◌&&◌, List, [], ◌∷◌, ◌++◌, length, map}
 use Rattle.std.proofs.Common.{Option, Some, None, refl, sym, ap, ◌∙◌, subst, arith, true≢false, slice_get}
 use Rattle.std.specs.Prelude.{IsSome, nat_le, option_and_then}

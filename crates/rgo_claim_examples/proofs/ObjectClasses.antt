@@ -1,4 +1,5 @@
--- The classes of `one_object`: its two pointers are in one, since one is copied to the other.
+-- The classes of `one_object`: its two pointers are in one, since one is copied to the other. A class is the least that the joins
+-- force, so it has to be shown as well that nothing else joins them.
 use Rattle.std.proofs.Common.{◌≡◌, ◌↔◌, ◌⊎◌, inl, inr, ℕ, zero, suc, List, [], ◌∷◌, ◌++◌, Option, Some, None, refl, sym, ap}
 use Rattle.std.proofs.Common.{◌∙◌, subst, arith, true≢false, slice_get}
 use Rattle.std.proofs.lemmas.Option.{same_Some}

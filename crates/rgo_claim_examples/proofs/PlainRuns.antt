@@ -1,4 +1,5 @@
--- A region run, but for its regions, its print and its ends: one step of the three-address machine for each instruction.
+-- A region run without its regions, its print and its ends: one step of the three-address machine for each instruction. Steps after the
+-- end mark count as well, which is why print and ends are left out.
 use Rattle.std.proofs.Common.{◌≡◌, ℕ, ◌+◌, List, [], ◌∷◌, length, Option, Some, None, refl, sym, ap, ◌∙◌}
 use Rattle.std.proofs.Common.{subst, arith, slice_get}
 use Rattle.std.specs.Prelude.{option_and_then}
@@ -20,7 +21,7 @@ use Rattle.rgo_claim_examples.proofs.Quiet.{quiet, quiet_of, quiet_step}
 -- ---- one event
 
 module _ (code : Code) (page_words : ℕ) where
-  -- picks that lead from the plain part of the one state to that of the other, as many as there were instructions
+  -- picks that lead from the plain part of one state to that of the other, one for each instruction
   pub record PlainRun (s t : RegionState) : Type 0 where
     pub picks : List Pick
     pub leads : run (quiet_step (tac (erased code))) (quiet s.plain) picks ≡ Some (quiet t.plain)

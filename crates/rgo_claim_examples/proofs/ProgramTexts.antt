@@ -1,4 +1,5 @@
--- The texts of the programs: their lexemes one by one, and their trees, read by computation.
+-- The texts of the programs: their lexemes one by one, and their trees, read by computation. Lexemes are written out because they are
+-- found by a relation and not by a function; from them on the tree is computed.
 use Rattle.std.proofs.Common.{◌≡◌, List, [], ◌∷◌, None, refl}
 use Rattle.std.specs.Prelude.{codes}
 use Rattle.std.specs.Str.{IsUtf8}

@@ -1,4 +1,5 @@
--- The programs for which the default options suffice, by the search, and those for which options do not.
+-- The programs for which the default options suffice, by the search over all runs, and those for which some options do not, by one run
+-- that meets a limit.
 use Rattle.std.proofs.Common.{◌≡◌, ℕ, zero, suc, max, true, ◌&&◌, List, [], ◌∷◌, length, Some, None, refl, ap}
 use Rattle.std.proofs.Common.{◌∙◌, arith, if◌then◌else◌}
 use Rattle.std.specs.Prelude.{nat_le, option_and_then}

@@ -1,4 +1,5 @@
--- What goroutines do depends on neither what was printed nor the end: a run that forgets both has the same steps.
+-- What goroutines do depends on neither what was printed nor the end: a run that forgets both has the same steps. So the steps after an
+-- end, which a region run may have, are steps of this machine, too.
 use Rattle.std.proofs.Common.{◌≡◌, ℕ, ◌==◌, Bool, true, false, List, [], ◌∷◌, Option, Some, None, refl, ap, ◌∙◌}
 use Rattle.std.proofs.Common.{slice_get, if◌then◌else◌}
 use Rattle.std.specs.Prelude.{option_and_then}

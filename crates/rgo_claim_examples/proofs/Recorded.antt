@@ -185,7 +185,7 @@ fewer = drop 1 picks
 fewer_fit : PickFits (One 0)
 fewer_fit = ltb-true 0 (2 ^ 32) refl
 
--- what begins with one journal begins with no other
+-- bytes that begin with one journal begin with no other, so a journal with a lost pick is the journal of another run
 same_picks : (found : List TacPick) (line : List ℕ) → IsJournal (journal found ++ line) found (length (journal found))
     → journal fewer ≡ journal found ++ line → found ≡ fewer
 same_picks found line is e =

@@ -1,4 +1,5 @@
--- The examples of runs with regions.
+-- The examples of runs with regions: that one exists is shown by its events, and that none exists by a property of all states that the
+-- code reaches.
 use Rattle.std.proofs.Common.{◌≡◌, ◌≤◌, ℕ, [], ◌∷◌, List, Some, length, refl, sym, ap, ◌∙◌, subst, arith}
 use Rattle.std.specs.Prelude.{nat_lt, unwrap_or}
 use Rattle.std.proofs.lemmas.Bool.{leb-true, ltb-true}

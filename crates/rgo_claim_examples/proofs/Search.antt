@@ -1,4 +1,5 @@
--- All states that a machine can come to, searched by computation: each pick of each state, so many steps deep.
+-- All states that a machine can reach, searched by computation: each pick of each state, down to a given depth. A search that passes is
+-- a proof about every run, for it also checks that no run is longer than the depth.
 use Rattle.std.proofs.Common.{◌≡◌, ◌<◌, ◌≤◌, ◌⊎◌, inl, inr, ℕ, zero, suc, ◌==◌, Bool, true, false, ◌&&◌, List, [], ◌∷◌}
 use Rattle.std.proofs.Common.{length, Option, Some, None, refl, subst, arith, slice_get, if◌then◌else◌}
 use Rattle.std.specs.Prelude.{option_and_then}
@@ -27,7 +28,7 @@ below test (suc n) k all less = by (cases_lt k n) (below test n k)
         subst (λ j. test j ≡ true) is (and_parts (test n) (all_below test n) all).0
 
 module _ {F : Type 0} where
-  -- whether what a step leads to passes, if it leads anywhere
+  -- whether the state after a step passes, if the step exists
   abbrev pub leads_to : (State F → Bool) → Option (State F) → Bool
   leads_to test None = true
   leads_to test (Some s) = test s
@@ -39,7 +40,7 @@ module _ {F : Type 0} where
       && all_below (λ r. all_below (λ t. leads_to test (step s (Meet r t))) (length s.goroutines))
       (length s.goroutines)
 
-  -- whether the state and all to which its runs lead pass, and no run has so many steps
+  -- whether the state and all states of its runs pass, and no run has as many steps as the depth
   abbrev pub all_within : (State F → Pick → Option (State F)) → (State F → Bool) → ℕ → State F → Bool
   all_within step test zero s = false
   all_within step test (suc n) s = test s && all_next step (all_within step test n) s

@@ -1,4 +1,4 @@
--- The examples of states and of room, by computation.
+-- The examples of states and of room. That a state is safe takes a proof of each part; that one is not takes the one part that fails.
 use Rattle.std.proofs.Common.{◌≡◌, ◌⊎◌, inl, inr, ◌∙◌, ℕ, zero, suc, ◌+◌, ◌≤◌, ◌<◌, [], ◌∷◌, Option, Some, None, refl, sym, ap}
 use Rattle.std.proofs.Common.{subst, arith, true≢false, slice_get, Contains}
 use Rattle.std.specs.Prelude.{IsSome, unwrap_or}
@@ -148,7 +148,7 @@ removing_anothers live = let has = live 0 _ (Numbered 0) refl refl in let none =
 
 -- ---- what an instruction names
 
--- a region that this one is
+-- a region that is equal to this one
 is_first : (s : RegionState) (h : Holder) → HasStake s h (Numbered 0) → (r : Region) → Some (Numbered 0) ≡ Some r
     → HasStake s h r
 is_first s h has r e = subst (HasStake s h) (same_Some (Numbered 0) r e) has

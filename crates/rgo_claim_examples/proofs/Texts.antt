@@ -1,4 +1,4 @@
--- The examples of texts: their lexemes and their trees, one by one.
+-- The examples of texts: the lexemes and the tree of the endless program, and why the bad text has a refusal and no program.
 use Rattle.std.proofs.Common.{◌≡◌, inl, List, [], ◌∷◌, None, refl}
 use Rattle.std.specs.Prelude.{codes}
 use Rattle.std.proofs.lemmas.Bool.{leb-true}

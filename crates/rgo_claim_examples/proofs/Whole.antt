@@ -1,5 +1,5 @@
--- The headline of calls that run these texts: completeness gives a run to an end of its own, and by the search each such
--- end is an exit.
+-- The headline of calls that run these texts: completeness yields a run to an end of its own, and by the search each such end is an
+-- exit with the number on `out`.
 use Rattle.std.proofs.Common.{◌≡◌, ◌⊎◌, inl, inr, ℕ, zero, suc, Bool, true, false, not, List, length, Option, Some, None}
 use Rattle.std.proofs.Common.{refl, sym, ap, ◌∙◌, subst, true≢false}
 use Rattle.std.specs.Prelude.{codes}
@@ -50,7 +50,7 @@ always_below test (suc n) each = and_from (test n) (all_below test n) (each n) (
 abbrev never : TacState → Bool
 never s = false
 
--- where no pick has a step, all that the steps lead to passes any test
+-- if no pick has a step, the states after the steps pass any test
 blocked_passes : (code : Tac) (s : TacState) → IsBlocked (step_by (tac code)) s
     → all_next (step_by (tac code)) never s ≡ true
 blocked_passes code s blocked =
@@ -71,7 +71,7 @@ goes_well right (Some (Trap trap place)) blocked = false
 abbrev is_well : (print : List ℕ) → Tac → TacState → Bool
 is_well print code s = goes_well (bytes_eq s.printed print) s.ended (all_next (step_by (tac code)) never s)
 
--- whether this is so of each state to which the code comes within the default limits
+-- whether this holds of each state that the code reaches within the default limits
 abbrev always_well : (print : List ℕ) → Tac → ℕ → Bool
 always_well print code steps =
     all_within (limited_step (tac code) default_options.limits) (is_well print code) steps (tac_start code)
@@ -128,7 +128,7 @@ module _ (program : Typed) (code : Tac) (steps : ℕ) (print : List ℕ) (lowere
           → ((call.status ≡ 0) × SinkGrew call.out print) ⊎ (call.status ≡ 11)
       by (inr e) = inr e
       by (inl whole) =
-          let x = exits (erased whole.runs.code) whole.runs.is_code.lowered whole.run_end call.out.old call.out.new
+          let x = exits (erased whole.runs.code) whole.runs.is_code.lowered whole.end call.out.old call.out.new
           whole.is_own whole.runs.runs in
           inl (whole.status ∙ x.0, x.1)
 

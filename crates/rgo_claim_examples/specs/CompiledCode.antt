@@ -1,4 +1,4 @@
--- The compiled code of `one_object`, and code that is not.
+-- The compiled code of `one_object`, and code that is not: one creation more, or one fewer, is already another code.
 use Rattle.std.specs.Prelude.{ℕ, List, [], ◌∷◌, Some, None}
 use Rattle.rgo_typed.specs.declared.actions.Action.TheVariants as action
 use Rattle.rgo_typed.specs.declared.statements.Piece.TheVariants as piece

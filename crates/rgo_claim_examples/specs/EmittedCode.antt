@@ -1,5 +1,5 @@
--- The code text of `one_object`, which `code` accepts; a text that is not its code text; places that a code text can express, and one
--- that it cannot.
+-- The code text of `one_object`, which `code` accepts; a text that is not its code text; the greatest place that a code text can
+-- express, and the next one, which it cannot.
 use Rattle.std.specs.Prelude.{ℕ, ◌^◌, ◌-◌, [], ◌∷◌, None}
 use Rattle.rgo_code.specs.Code.{Code, Return}
 use Rattle.rgo_code.specs.Erasure.{erased}

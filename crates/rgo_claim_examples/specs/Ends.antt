@@ -1,5 +1,6 @@
--- Two small pieces of three-address code, and which ends their runs have: one prints a truth value, and one waits for a value that
--- nobody sends.
+-- Two small pieces of three-address code, and which ends their runs have: one prints a truth value, and one waits for a value that is
+-- never sent. What a run cannot do (`other_print`, `no_exit`) matters as much: a definition that every end satisfied would make the
+-- claim empty.
 use Rattle.std.specs.Prelude.{ℕ, Bool, codes, true, false, pos, List, [], ◌∷◌, map, Some, None}
 use Rattle.rgo_typed.specs.declared.actions.Action.TheVariants as action
 use Rattle.rgo_typed.specs.declared.statements.Piece.TheVariants as piece

@@ -1,4 +1,5 @@
--- Small programs as typed trees, with the places that their nodes have in a text in the usual layout.
+-- Small programs as typed trees, with the places that their nodes have in a text in the usual layout. The texts are in Texts.antt;
+-- written as trees, programs can be used where a text would have to be lexed and parsed first.
 use Rattle.std.specs.Prelude.{ℕ, codes, pos, true, List, [], ◌∷◌, Option, Some, None}
 use Rattle.rgo_ast.specs.declared.ops.BinaryOp.TheVariants.{Add, Eq, Lt, Sub}
 use Rattle.rgo_typed.specs.declared.actions.Action.{Action}

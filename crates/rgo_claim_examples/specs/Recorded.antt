@@ -1,4 +1,5 @@
--- A call of `record` that runs the program with one object, and outcomes that the claim of `record` excludes.
+-- A call of `record` that runs the program with one object, and outcomes that the claim of `record` excludes: without its journal, or
+-- with a pick missing, a recording could not be replayed.
 use Rattle.std.specs.Prelude.{◌≡◌, ℕ, false, List, [], codes, drop, replicate, Some}
 use Rattle.rgo_command_line.specs.Commands.{command_of}
 use Rattle.rgo_command_line.specs.Limits.{default_options}

@@ -1,4 +1,5 @@
--- A run with regions, and what is not a run with regions.
+-- A run with regions, and what is not a run with regions. The claim says that some run exists; these examples show that not every
+-- state, end or tally has one.
 use Rattle.std.specs.Prelude.{◌≡◌, ◌≤◌, ◌+◌, ◌*◌, true, false, List, [], ◌∷◌, None, Some, length}
 use Rattle.rgo_machine.specs.declared.limits.Sizes.{Sizes}
 use Rattle.rgo_machine.specs.declared.picks.End.TheVariants.{Exit}
@@ -48,6 +49,6 @@ pub record RegionRunExamples : Type 0 where
   -- it is not the run that took no step
   pub two_runs : (what : Runnable) (options : RunOptions) (end : RunEnd) (out : SinkUse) (r : RunOf what options end out)
       → r.runs.picks ≡ [] → picks_of r.code options.sizes r.regions.events ≡ One 0 ∷ [] → IsOneRun r → ⊥
-  -- its limit of instructions was passed by 1,000 for each goroutine
+  -- its limit of instructions was exceeded by 1,000 for each goroutine
   pub overspent : (what : Runnable) (options : RunOptions) (out : SinkUse) (r : RunOf what options run_end.StepsSpent out)
       → (counts_of r.regions.last).steps ≡ options.limits.steps + 1000 * (counts_of r.regions.last).goroutines → IsOneRun r → ⊥

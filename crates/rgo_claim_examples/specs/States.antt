@@ -1,5 +1,6 @@
--- States of the region machine that violate a definition of region safety, and states that satisfy them all. The code is that of
--- `rgo_region_machine`'s examples.
+-- States of the region machine that violate a definition of region safety, and states that satisfy them all. Each violating state
+-- differs from a safe one in a single point, so it shows that the part of the definition about that point says something. No run
+-- reaches these states; the code is that of the examples of `rgo_region_machine`.
 use Rattle.std.specs.Prelude.{◌≡◌, ℕ, false, pos, replicate, List, [], ◌∷◌, Some, None}
 use Rattle.rgo_memory.specs.Memory.{Channel, Object, SliceObject, StructObject}
 use Rattle.rgo_memory.specs.declared.values.Value.TheVariants as value
@@ -75,11 +76,11 @@ astray =
     one_goroutine_start (StructObject (value.Object 1 ∷ []) ∷ StructObject [] ∷ []) (Numbered 0 ∷ Numbered 1 ∷ [])
     (region 1 1 ∷ region 1 1 ∷ []) (holder (0 ∷ 1 ∷ []) ((0, Numbered 0) ∷ (1, Numbered 1) ∷ []) [])
 
--- one goroutine has a stake, and two are counted
+-- one goroutine has a stake, and two are counted: the region would outlive its last stake
 abbrev pub overcounted : RegionState
 overcounted = one_goroutine_start [] [] (region 2 0 ∷ []) (holder (0 ∷ []) ((0, Numbered 0) ∷ []) [])
 
--- a stake that no name keeps, and one that two names keep
+-- a stake that no name keeps, so nobody could end it; and one that two names keep, so it could end twice
 abbrev pub unnamed_stake : RegionState
 unnamed_stake = one_goroutine_start [] [] (region 1 0 ∷ []) (holder (0 ∷ []) [] [])
 
@@ -96,7 +97,7 @@ with_pages pages =
     one_goroutine_start (SliceObject (replicate 40 (value.Int (pos 0))) ∷ []) (Numbered 0 ∷ []) (region 1 pages ∷ [])
     (holder (0 ∷ []) ((0, Numbered 0) ∷ []) [])
 
--- a region is removed next: it is live; it has been removed before; it is that of another goroutine
+-- a region is removed next: it is live; it has been removed before; it is live only by another goroutine's stake
 abbrev pub removing_live : RegionState
 removing_live = one_goroutine_start [] [] (region 1 0 ∷ []) (holder (0 ∷ []) ((0, Numbered 0) ∷ []) (Remove 0 ∷ []))
 
@@ -122,7 +123,7 @@ loading_live = before_load (region 1 1 ∷ []) (0 ∷ [])
 abbrev pub loading_removed : RegionState
 loading_removed = before_load (region 0 1 ∷ []) []
 
--- an offer was taken on a channel whose region has been removed
+-- an offer was taken on a channel whose region has been removed: its acknowledgement would write to the channel
 abbrev pub acknowledging_removed : RegionState
 acknowledging_removed =
     one_goroutine_start (Channel 0 [] false ∷ []) (Numbered 0 ∷ []) (region 0 1 ∷ [])
@@ -135,8 +136,8 @@ pub record StateExamples : Type 0 where
   pub unnamed : IsSafe aliased_object 16 unnamed_stake → ⊥
   pub named_twice : IsSafe aliased_object 16 named_twice → ⊥
   pub too_many_pages : IsSafe aliased_object 16 too_many_pages → ⊥
-  -- The slice has a lead page and three data pages, and the goroutine may have taken as many more; in a page that has room for it, it
-  -- has that one alone.
+  -- The slice has a lead page and three data pages, and its goroutine may have taken as many more for a next object; in a page that has
+  -- room for all of it, it counts for one page.
   pub spread_pages : CountsFit aliased_object 16 (with_pages 8)
   pub too_many_spread : IsSafe aliased_object 16 (with_pages 9) → ⊥
   pub whole_pages : CountsFit aliased_object 41 (with_pages 2)
@@ -164,7 +165,7 @@ abbrev pub Comes : Code → (page_words : ℕ) → List Event → (RegionState �
 Comes code page_words events Holds =
     (s : RegionState) × (region_run code page_words events ≡ Some s) × Holds s
 
--- The run of `aliased_object` creates a region, and then takes a page of that.
+-- The run of `aliased_object` creates a region, and then takes a page in it: at each step one kind of room can be missing.
 pub record RoomExamples : Type 0 where
   pub no_region : LacksIn aliased_object (sizes 16 1 0) shortage.Regions (region_start aliased_object)
   pub one_region : LacksIn aliased_object (sizes 16 1 1) shortage.Regions (region_start aliased_object) → ⊥
@@ -180,6 +181,6 @@ pub record RoomExamples : Type 0 where
   pub longest : Comes (long_slice 224 0 0) 16 (taking_pages 0)
       (λ s. LacksIn (long_slice 224 0 0) (sizes 16 1 1) shortage.ObjectSize s → ⊥)
   pub too_long : Comes (long_slice 225 0 0) 16 (taking_pages 0) (LacksIn (long_slice 225 0 0) (sizes 16 1 1) shortage.ObjectSize)
-  -- the object has two words
+  -- the object has two words, so in pages of one word it would be spread, and a lead page of one word has no room for a page number
   pub one_word : Comes aliased_object 1 region_created (LacksIn aliased_object (sizes 1 1 1) shortage.ObjectSize)
   pub two_words : Comes aliased_object 2 region_created (λ s. LacksIn aliased_object (sizes 2 1 1) shortage.ObjectSize s → ⊥)

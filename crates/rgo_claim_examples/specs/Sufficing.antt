@@ -1,4 +1,5 @@
--- Programs of which no run reaches a limit or lacks room, and programs of which some run does.
+-- Programs of which no run reaches a limit or lacks room, and programs of which some run does. `Suffices` is the premise under which
+-- `rgo` promises a run to the program's own end, so it must hold of ordinary programs.
 use Rattle.std.specs.Prelude.{ℕ}
 use Rattle.rgo_typed.specs.Tree.{Typed}
 use Rattle.rgo_tac.specs.Code.{Tac}

@@ -1,4 +1,5 @@
--- Texts that are programs, and one that is rejected.
+-- Texts that are programs, and one that is rejected: here the definitions of lexing, parsing and typing are applied to real texts,
+-- layout included.
 use Rattle.std.specs.Prelude.{◌≡◌, ℕ, codes, List, ◌++◌}
 use Rattle.rgo_lexer.specs.declared.refusals.LexicalKind.TheVariants.{BadByte}
 use Rattle.rgo_typed.specs.Tree.{Typed}

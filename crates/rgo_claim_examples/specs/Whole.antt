@@ -1,4 +1,5 @@
--- What the headline implies for calls that run the texts of these programs.
+-- What the headline implies for calls that run the texts of these programs: from the claim alone, with no look at the code of `rgo`,
+-- follows what the user sees.
 use Rattle.std.specs.Prelude.{◌≡◌, ◌⊎◌, ℕ, List, codes}
 use Rattle.rgo_command_line.specs.Limits.{default_options}
 use Rattle.rgo_run.specs.Calls.{Call, Failed, SinkGrew, IsRunCall, SourceFailed}

@@ -1,4 +1,5 @@
--- What `emit` prints, `code` accepts.
+-- What `emit` prints, `code` accepts: compiled code is printable (Printed.antt), the text of printable code is read back as that code,
+-- and compiled code keeps all rules.
 use Rattle.std.proofs.Common.{refl, ap}
 use Rattle.rgo_code.specs.declared.code.Undeclared.{Undeclared}
 use Rattle.rgo_code_text.proofs.readings.Ruled.{rules_suffice}

@@ -1,4 +1,5 @@
--- Each claim of the headline by itself, from how a call ended that read its text.
+-- Each claim of the headline by itself, from how a call ended that read its text. `Outcome` has a case for each way to end, and each
+-- claim is a case analysis on it; so a new command needs a case here, and no claim changes.
 use Rattle.std.proofs.Common.{◌≡◌, true, false, ℕ, ◌⊎◌, inl, inr, List, None, Some, Option, option_and_then, refl, sym, ◌∙◌, ap, subst}
 use Rattle.std.proofs.lemmas.Option.{same_Some}
 use Rattle.rgo_typed.specs.Tree.{Typed}
@@ -15,7 +16,7 @@ use Rattle.rgo_run.specs.declared.endings.Ending.{Ending}
 use Rattle.rgo_run.specs.declared.endings.Ending.TheVariants.{Valid, Ran, Usage, ReadFault, Refused, CodeRefused, WriteFault, NoMemory}
 use Rattle.rgo_command_line.specs.declared.commands.Command.{Command}
 use Rattle.rgo_command_line.specs.declared.commands.Command.TheVariants.{Run, Check, Emit, Code, Big, Record, Replay, RunCode}
-use Rattle.rgo_run.specs.Calls.{Call, AsksForCommand, IsRunCall, IsEmit, SinkUse, SourceHeld, Failed, SinkHeld, SinkGrew}
+use Rattle.rgo_run.specs.Calls.{Call, AsksForCommand, IsRunCall, AsksEmit, SinkUse, SourceHadNoFault, Failed, SinkHadNoFault, SinkGrew}
 use Rattle.rgo_run.specs.Calls.{IsUntouched, text_kind_of, run_of_command}
 use Rattle.rgo_run.specs.Compiled.{Emits, IsCodeText, WritesCode}
 use Rattle.rgo_run.specs.Endings.{status_of, status_of_run, is_fault_status, line_of}
@@ -44,13 +45,13 @@ pub data Outcome (call : Call) (text : List ℕ) (e : Ending) : Type 0 where
       → IsUntouched call.out → Outcome call text e
   ran : (kind : TextKind) (options : RunOptions) → IsRunCall call kind options → (r : TextRunsTo kind options text e call.out)
       → ((AsksForCommand call (Record options) → ⊥) → IsOneRun r.runs) → Outcome call text e
-  emitted : IsEmit call → Emits text e call.out → Outcome call text e
+  emitted : AsksEmit call → Emits text e call.out → Outcome call text e
   refused : (command : Command) → AsksForCommand call command → RefusedBy command text e → IsUntouched call.out → Outcome call text e
   no_memory : e ≡ NoMemory → IsUntouched call.out → Outcome call text e
 
 pub record Went (call : Call) (text : List ℕ) (e : Ending) : Type 0 where
   pub is_text : IsTextOf (command_of call.words) call.source.left text
-  pub held : SourceHeld call.source
+  pub held : SourceHadNoFault call.source
   pub asks : AskSome call.words ⊎ (e ≡ NoMemory)
   pub outcome : Outcome call text e
 
@@ -88,10 +89,10 @@ no_run call command kind options c k r = by_command command k (runs_with call co
     by_command Replay k r = k
     by_command (Record _) k r = k
 
-no_emit : (call : Call) (command : Command) → AsksForCommand call command → OnlyChecks command → IsEmit call → ⊥
+no_emit : (call : Call) (command : Command) → AsksForCommand call command → OnlyChecks command → AsksEmit call → ⊥
 no_emit call command c k d = subst OnlyChecks (same_command call command Emit c d) k
 
-run_or_emit : (call : Call) (kind : TextKind) (options : RunOptions) → IsEmit call → IsRunCall call kind options → ⊥
+run_or_emit : (call : Call) (kind : TextKind) (options : RunOptions) → AsksEmit call → IsRunCall call kind options → ⊥
 run_or_emit call kind options c d = let none = runs_with call Emit kind options c d in cc
 
 -- a command that runs a text of a kind is about that kind
@@ -185,7 +186,7 @@ emit_failed bytes call WriteFault w x = w.0
 emit_failed bytes call Valid w x = cc
 emit_failed bytes call _ w x = absurd w
 
-emit_held : (bytes : List ℕ) (call : Call) (e : Ending) → WritesCode bytes e call.out → (e ≡ WriteFault → ⊥) → SinkHeld call.out
+emit_held : (bytes : List ℕ) (call : Call) (e : Ending) → WritesCode bytes e call.out → (e ≡ WriteFault → ⊥) → SinkHadNoFault call.out
 emit_held bytes call Valid w n = w.1
 emit_held bytes call WriteFault w n = absurd (n refl)
 emit_held bytes call _ w n = absurd w
@@ -260,7 +261,7 @@ print call text e (refused command c f o) kind options d m =
     absurd (one_is_no_run e (refused_status (text_kind_of command) text e f) m)
 print call text e (no_memory is o) kind options d m = inr (is, o)
 
-pub emission : (call : Call) (text : List ℕ) (e : Ending) → Outcome call text e → IsEmit call → EndsEmit e
+pub emission : (call : Call) (text : List ℕ) (e : Ending) → Outcome call text e → AsksEmit call → EndsEmit e
     → Emits text e call.out
 emission call text e (accepted is command c k p o) d m = absurd (no_emit call command c k d)
 emission call text e (ran kind options c r one) d m = absurd (run_or_emit call kind options d c)
@@ -288,13 +289,13 @@ emit_write_failed call text e em (inl (kind, stats, x)) =
     absurd (emit_is_no_run e kind run_end.WriteFault stats (emit_ends call text e em) x)
 emit_write_failed call text e em (inr x) = emit_failed em.0 call e em.2 x
 
--- an ending that is not such a one
+-- an ending that is neither of the two failed writes
 pub no_write_fault : (e : Ending) → ((kind : TextKind) (stats : Option Tally) → e ≡ Ran kind run_end.WriteFault stats → ⊥)
     → (e ≡ WriteFault → ⊥) → IsWriteFault e → ⊥
 no_write_fault e run emit (inl (kind, stats, x)) = run kind stats x
 no_write_fault e run emit (inr x) = emit x
 
--- nor is it another ending than the one that it is
+-- an ending that is known differs from every other
 not_other : (e is other : Ending) → e ≡ is → (is ≡ other → ⊥) → e ≡ other → ⊥
 not_other e is other x n y = n (sym x ∙ y)
 
@@ -339,7 +340,7 @@ status_10 call text e (inl t) s = inl (write_fault e (sym t.0 ∙ s))
 status_10 call text e (inr t) s = inr t.1
 
 pub err_held : (call : Call) (text : List ℕ) (e : Ending) → ReportsEnding text e call.status call.err
-    → is_fault_status call.status ≡ false → SinkHeld call.err × (call.status ≡ status_of e)
+    → is_fault_status call.status ≡ false → SinkHadNoFault call.err × (call.status ≡ status_of e)
 err_held call text e (inl t) s = (t.2, t.0)
 err_held call text e (inr t) s = absurd (let ten = subst (λ n. is_fault_status n ≡ false) t.0 s in cc)
 
@@ -351,7 +352,7 @@ not_fault call e other is t s x =
 
 out_held : (call : Call) (text : List ℕ) (e : Ending) → Outcome call text e
     → ((kind : TextKind) (stats : Option Tally) → e ≡ Ran kind run_end.WriteFault stats → ⊥) → (e ≡ WriteFault → ⊥)
-    → SinkHeld call.out
+    → SinkHadNoFault call.out
 out_held call text e (accepted is command c k p o) n m = o.1
 out_held call text e (ran kind options c r one) n m = r.held (λ w. n kind r.stats (r.is_end ∙ ap (λ end. Ran kind end r.stats) w))
 out_held call text e (emitted c em) n m = emit_held em.0 call e em.2 m
@@ -376,7 +377,7 @@ faults call text e went t = record {
 
 -- ---- completeness
 
--- a run of what is run, and what is said of it
+-- a run of the program or code, and what is reported of it
 abbrev RunsWith : RunOptions → Runnable → RunEnd → Option Tally → SinkUse → Type 0
 RunsWith options what end stats out =
     (runs : RunOf what options end out) × IsSaid options.stats end (counts_of runs.regions.last) stats
@@ -392,7 +393,7 @@ module _ (kind : TextKind) (options : RunOptions) (call : Call) (text : List ℕ
       → (call.status ≡ status_of_run end) × SinkGrew call.err (line_of text (Ran kind end stats))
       → RunsWhole kind options call text what
   own end is r t = record {
-    run_end = end;
+    end = end;
     is_own = is;
     runs = r.0;
     stats = stats;
@@ -479,7 +480,7 @@ emits_whole call text WriteFault bytes is w t n = absurd (n w.0)
 emits_whole call text _ bytes is w t n = absurd w
 
 pub complete_emit : (call : Call) (text : List ℕ) (e : Ending) → Outcome call text e → ReportsEnding text e call.status call.err
-    → IsEmit call → (Failed call.out → ⊥) → (Failed call.err → ⊥) → IsValidProgram text
+    → AsksEmit call → (Failed call.out → ⊥) → (Failed call.err → ⊥) → IsValidProgram text
     → EmitsWhole call text ⊎ (call.status ≡ 11)
 complete_emit call text e (accepted is command c k u o) t d w n p = absurd (no_emit call command c k d)
 complete_emit call text e (ran kind options c r one) t d w n p = absurd (run_or_emit call kind options d c)

@@ -1,4 +1,5 @@
--- A code text has a byte for each of its lines at least.
+-- A code text has at least one byte for each of its lines. So code with more lines than the checker can number has a text beyond the
+-- limit, and the checker's `TooLarge` may be reported as a text that is too long.
 use Rattle.std.proofs.Common.{◌≡◌, ℕ, ◌+◌, ◌≤◌, List, [], ◌∷◌, ◌++◌, map, length, codes, arith, length-append}
 use Rattle.std.specs.List.{flat_map, join_with_byte}
 use Rattle.std.proofs.lemmas.List.{length-map}

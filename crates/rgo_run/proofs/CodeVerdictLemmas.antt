@@ -1,4 +1,5 @@
--- Each code text is the text of one code at most, and passes or has one refusal.
+-- Each code text is the text of at most one code, and passes or has one refusal. Refusals exclude each other in a fixed order: the
+-- length, then the first line that does not match the grammar, then the least rule that is broken.
 use Rattle.std.proofs.Common.{◌≡◌, ◌<◌, ◌≤◌, ◌⊎◌, inl, inr, refl, sym, ◌∙◌, ap, ap₂, subst, ℕ, List, length, arith}
 use Rattle.std.proofs.lemmas.Bool.{cases_lt}
 use Rattle.rgo_code.specs.Checked.{IsChecked, IsFirstBroken}
@@ -18,7 +19,7 @@ use Rattle.rgo_run.specs.CodeVerdicts.{code_limit, IsTextOfCode, CodePasses, Cod
 pub one_code : (text : List ℕ) (a b : Code) → IsTextOfCode text a → IsTextOfCode text b → a ≡ b
 one_code text a b is also = no_two a b is.written also.written (sym is.text_is ∙ also.text_is)
 
--- the text of code has a form
+-- every line of the text of code matches the grammar
 has_form : (text : List ℕ) (code : Code) (n : ℕ) → IsTextOfCode text code → IsFirstWithoutForm text n → ⊥
 has_form text code n is first =
     forms.not_both code n is.written (subst (λ t. IsFirstWithoutForm t n) is.text_is first)

@@ -1,4 +1,4 @@
--- Items of a list that are looked at one by one.
+-- The step of a loop that checks the items of a list one by one.
 use Rattle.std.proofs.Common.{ℕ, ◌+◌, ◌<◌, List, [], ◌∷◌, length, take, All, slice_get, IfSome, subst, arith}
 use Rattle.std.proofs.lemmas.List.Elements.{All-more}
 use Rattle.std.proofs.lemmas.Option.{slice_get-get_or}

@@ -1,4 +1,5 @@
--- What endings and statuses exclude.
+-- What endings and statuses exclude. The last clauses of `rgo` speak of the status alone, so the proof has to know which endings can
+-- have it.
 use Rattle.std.proofs.Common.{◌≡◌, ◌⊎◌, inl, inr, Bool, true, false, ◌||◌, ℕ, List, Option, refl, sym, ap, ◌∙◌, subst, true≢false}
 use Rattle.std.specs.Prelude.{◌==◌}
 use Rattle.rgo_machine.specs.declared.picks.End.TheVariants as the_end
@@ -38,14 +39,14 @@ run_has_status run_end.GoroutinesSpent = refl
 run_has_status run_end.WriteFault = refl
 run_has_status run_end.NoMemory = refl
 
--- a run has no other
+-- a run has no other status
 pub no_run_status : (n : ℕ) → has_run_status n ≡ false → (end : RunEnd) → status_of_run end ≡ n → ⊥
 no_run_status n none end s = true≢false (sym (run_has_status end) ∙ ap has_run_status s ∙ none)
 
 pub not_status_1 : (end : RunEnd) → status_of_run end ≡ 1 → ⊥
 not_status_1 end s = no_run_status 1 refl end s
 
--- with status 10 of a run a write failed
+-- a run with status 10 has ended with a failed write
 pub fault_of_run : (end : RunEnd) → status_of_run end ≡ 10 → end ≡ run_end.WriteFault
 fault_of_run run_end.WriteFault s = refl
 fault_of_run (run_end.Ended the_end.Exit) s = absurd (let wrong = s in cc)
@@ -92,7 +93,7 @@ one_is_no_emit Valid s m = cc
 one_is_no_emit WriteFault s m = cc
 one_is_no_emit _ s m = m
 
--- with status 9 a read failed
+-- an ending with status 9 is a failed read
 pub read_fault : (e : Ending) → status_of e ≡ 9 → e ≡ ReadFault
 read_fault ReadFault s = refl
 read_fault (Ran kind end stats) s = absurd (no_run_status 9 refl end s)
@@ -103,7 +104,7 @@ read_fault (CodeRefused why) s = cc
 read_fault WriteFault s = cc
 read_fault NoMemory s = cc
 
--- with status 10 of an ending a write to `out` failed
+-- an ending with status 10 is a failed write to `out`
 pub write_fault : (e : Ending) → status_of e ≡ 10 → IsWriteFault e
 write_fault (Ran kind end stats) s = inl (kind, stats, ap (λ e. Ran kind e stats) (fault_of_run end s))
 write_fault WriteFault s = inr refl
@@ -125,7 +126,7 @@ run_of_status (Refused why) s = cc
 run_of_status (CodeRefused why) s = cc
 run_of_status WriteFault s = cc
 
--- ---- endings in short
+-- ---- the short report, if there is no memory for the lines
 
 short_of_run : (kind : TextKind) (end : RunEnd) (stats : Option Tally)
     → (in_short (Ran kind end stats) ≡ NoMemory) ⊎ (end ≡ run_end.WriteFault)

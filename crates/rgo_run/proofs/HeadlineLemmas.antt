@@ -1,5 +1,6 @@
--- The claims of the whole, from what its parts leave: the text that was read and checked or run, and the report of the
--- ending.
+-- The headline, from what the parts of a call leave: the text that was read and checked or run, and the report of the ending. The hard
+-- case is a report whose lines found no memory. What is reported then is another ending, for which every claim must hold as well, also
+-- that on a run which has already printed (`no_line_run`).
 use Rattle.std.proofs.Common.{◌≡◌, Bool, true, false, ℕ, ◌⊎◌, inl, inr, List, [], Option, None, Some, IfSome, option_and_then, refl, sym, ap, subst}
 use Rattle.std.specs.Io.KnownBytes.{Appends}
 use Rattle.rgo_machine.specs.declared.limits.Limits.{Limits}
@@ -21,9 +22,9 @@ use Rattle.rgo_run.specs.declared.endings.Ending.{Ending}
 use Rattle.rgo_run.specs.declared.endings.Ending.TheVariants.{Valid, Ran, Usage, ReadFault, Refused, CodeRefused, WriteFault, NoMemory}
 use Rattle.rgo_run.specs.declared.refusals.CodeTextRefusal.TheVariants as code_refusal
 use Rattle.rgo_run.specs.declared.refusals.TextRefusal.TheVariants as refusal
-use Rattle.rgo_run.specs.Calls.{AsksRun, Call, AsksForCommand, IsRunCall, SinkUse, SourceFailed, SourceHeld, IsUntouched, text_kind_of, run_of_command}
+use Rattle.rgo_run.specs.Calls.{AsksRun, Call, AsksForCommand, IsRunCall, SinkUse, SourceFailed, SourceHadNoFault, IsUntouched, text_kind_of, run_of_command}
 use Rattle.rgo_run.specs.Endings.{status_of, is_run_status, is_fault_status}
-use Rattle.rgo_run.specs.Reports.{ReportsEnding, HasPlace, Reports, in_short}
+use Rattle.rgo_run.specs.Reports.{ReportsEnding, LineHasNumber, Reports, in_short}
 use Rattle.rgo_run.specs.Runs.{HasSourceRun, IsOneRun, IsSaid, Runnable, TextRunsTo, of_code, of_program}
 use Rattle.rgo_run.specs.Texts.{AcceptedBy, IsTextOf, IsTextRead, AskSome, NotRead, PassesAs, ReadTooMuch, ChecksText, FailsAs, PerformsCommand}
 use Rattle.rgo_run.specs.Headline.{EndsEmit, EndsRun, Headline, IsWriteFault}
@@ -65,7 +66,7 @@ headline_told call text e went t = record {
   };
 }
 
--- where no write failed, the whole print was given out
+-- if no write failed, the whole print was written
 pub whole_print : (end : RunEnd) (print : List ℕ) (old new : Option (List ℕ)) → (end ≡ run_end.WriteFault → ⊥)
     → RunPrints end print old new → Appends old new print
 whole_print run_end.WriteFault print old new n g = absurd (n refl)
@@ -89,12 +90,12 @@ no_line_source (of_program program) limits end t s = record {
 }
 no_line_source (of_code code) limits end t s = s
 
--- where memory was refused, or a write failed, nothing may be said of a run
+-- if memory ran out, or a write failed, the counts of a run may be missing
 pub nothing_said : (asked : Bool) (made : Counts) → IsSaid asked run_end.NoMemory made None × IsSaid asked run_end.WriteFault made None
 nothing_said true made = (tt, tt)
 nothing_said false made = (tt, tt)
 
--- a run of which the lines had no memory counts as one that ran out of memory
+-- a run whose lines found no memory counts as one that ran out of memory
 abbrev pub no_line_run : (kind : TextKind) (options : RunOptions) (text : List ℕ) (out : SinkUse) (e : Ending)
     (r : TextRunsTo kind options text e out) → (r.run_end ≡ run_end.WriteFault → ⊥)
     → TextRunsTo kind options text (Ran kind run_end.NoMemory None) out
@@ -136,7 +137,7 @@ no_line_run kind options text out e r no_fault = record {
   held = λ _. r.held no_fault;
 }
 
--- a run in which a write failed, of which nothing else is said
+-- a run in which a write failed, without its counts
 abbrev unsaid_run : (kind : TextKind) (options : RunOptions) (text : List ℕ) (out : SinkUse) (e : Ending)
     (r : TextRunsTo kind options text e out) → r.run_end ≡ run_end.WriteFault
     → TextRunsTo kind options text (Ran kind run_end.WriteFault None) out
@@ -153,13 +154,13 @@ unsaid_run kind options text out e r fault = record {
   held = r.held;
 }
 
--- what was printed needs no memory for a line
-no_place : (e : Ending) → EndsEmit e → HasPlace e → ⊥
+-- an ending of `emit` has no line with numbers, so its report needs no memory
+no_place : (e : Ending) → EndsEmit e → LineHasNumber e → ⊥
 no_place Valid ends h = h
 no_place WriteFault ends h = h
 no_place _ ends h = ends
 
--- words that ask for a run ask for something
+-- words that ask for a run name a command
 run_asks : (call : Call) (kind : TextKind) (options : RunOptions) → IsRunCall call kind options → AskSome call.words
 run_asks call kind options r = by_command (command_of call.words) refl r
   where
@@ -168,7 +169,7 @@ run_asks call kind options r = by_command (command_of call.words) refl r
     by_command (Some command) is r = (command, is)
     by_command None is r = cc
 
--- the lines of a run had no memory
+-- the lines of a run found no memory
 module _ (call : Call) (text : List ℕ) (e : Ending) (went : Went call text e) (kind : TextKind) (options : RunOptions)
     (c : IsRunCall call kind options) (r : TextRunsTo kind options text e call.out)
     (one : (AsksForCommand call (Record options) → ⊥) → IsOneRun r.runs) where
@@ -201,7 +202,7 @@ module _ (call : Call) (text : List ℕ) (e : Ending) (went : Went call text e) 
   no_line_of_run run_end.GoroutinesSpent is t = without_memory (λ x. cc) t
   no_line_of_run run_end.NoMemory is t = without_memory (λ x. cc) t
 
--- a refusal whose line had no memory
+-- a refusal whose line found no memory
 no_line_of_refusal : (call : Call) (text : List ℕ) (e : Ending) → Went call text e → status_of e ≡ 1 → IsUntouched call.out
     → ReportsEnding text (in_short e) call.status call.err → Headline call
 no_line_of_refusal call text e went refusal o t =
@@ -212,15 +213,15 @@ no_line_of_refusal call text e went refusal o t =
       outcome = no_memory refl o;
     }) (subst (λ x. ReportsEnding text x call.status call.err) (short_of_refusal e refusal) t)
 
-no_line : (call : Call) (text : List ℕ) (e : Ending) → Went call text e → Outcome call text e → HasPlace e
+no_line : (call : Call) (text : List ℕ) (e : Ending) → Went call text e → Outcome call text e → LineHasNumber e
     → ReportsEnding text (in_short e) call.status call.err → Headline call
-no_line call text e went (accepted is command c k p o) h t = absurd (subst HasPlace is h)
+no_line call text e went (accepted is command c k p o) h t = absurd (subst LineHasNumber is h)
 no_line call text e went (ran kind options c r one) h t =
     no_line_of_run call text e went kind options c r one r.run_end refl
     (subst (λ x. ReportsEnding text (in_short x) call.status call.err) r.is_end t)
 no_line call text e went (emitted c em) h t = absurd (no_place e (emit_ends call text e em) h)
 no_line call text e went (refused command c f o) h t = no_line_of_refusal call text e went (refused_status (text_kind_of command) text e f) o t
-no_line call text e went (no_memory is o) h t = absurd (subst HasPlace is h)
+no_line call text e went (no_memory is o) h t = absurd (subst LineHasNumber is h)
 
 pub headline_of : (call : Call) (text : List ℕ) (e : Ending) → Went call text e → Reports text e call.status call.err → Headline call
 headline_of call text e went (inl t) = headline_told call text e went t
@@ -278,7 +279,7 @@ headline_of_recorded call options text e read runs reports =
       outcome = ran text_kind.Go options (ap (option_and_then run_of_command) read.asked) runs (λ unrecorded. absurd (unrecorded read.asked));
     }) reports
 
--- or not, since the text was rejected or memory ran out
+-- a call of `record` without a run, since the text was rejected or memory ran out
 pub headline_of_unrecorded : (call : Call) (options : RunOptions) (text : List ℕ) (e : Ending)
     → IsTextRead call.words call.source (Record options) text → FailsAs text_kind.Go text e → IsUntouched call.out
     → Reports text e call.status call.err → Headline call
@@ -292,7 +293,8 @@ headline_of_unrecorded call options text e read fails untouched reports =
 
 -- ---- other calls
 
--- the large text, where it is asked for, or else a text that is consistent with what the source reports
+-- the large text if it is asked for, and otherwise a text that agrees with what the source reports; the headline names a text even if
+-- none was read
 abbrev left_text : Option (List ℕ) → List ℕ
 left_text None = []
 left_text (Some text) = text
@@ -325,12 +327,12 @@ pub record IsOutside (e : Ending) : Type 0 where
   pub no_write_fault : IsWriteFault e → ⊥
   pub not_ran : (kind : TextKind) (end : RunEnd) (stats : Option Tally) → e ≡ Ran kind end stats → ⊥
 
--- a call that did not read its text: its words ask for nothing, or a read failed
+-- a call that did not read its text: its words name no command, or a read failed
 headline_outside : (call : Call) (e : Ending) → IsOutside e → IsUntouched call.out → ReportsEnding (some_text (command_of call.words) call.source.left) e call.status call.err
     → (e ≡ Usage → command_of call.words ≡ None)
     → (command_of call.words ≡ None → (e ≡ Usage) ⊎ (e ≡ NoMemory))
     → (e ≡ ReadFault → SourceFailed call.source)
-    → (is_fault_status (status_of e) ≡ false → SourceHeld call.source)
+    → (is_fault_status (status_of e) ≡ false → SourceHadNoFault call.source)
     → ((command : Command) → AsksForCommand call command → (SourceFailed call.source → ⊥) → ⊥)
     → Headline call
 headline_outside call e outside u t of_usage to_usage of_fault kept only = record {

@@ -1,4 +1,5 @@
--- The word of a name among the tokens of a text is a name of code texts: a word, and no keyword.
+-- The word of a name token is a name that a code text can have: letters, digits and underscores, and not a keyword. So `emit` prints
+-- the names of a program as they are, and what it prints can be read back.
 use Rattle.std.proofs.Common.{◌≡◌, ⊎_elim, ℕ, zero, suc, ◌+◌, Bool, true, false, cond, List, [], ◌∷◌, ◌++◌, length, map, take, drop, Option, Some, None, refl, sym, ap, ◌∙◌, arith}
 use Rattle.std.specs.Prelude.{not, ◌||◌, ◌==◌, nat_eq, bytes_eq, if◌then◌else◌, codes}
 use Rattle.std.specs.List.{list_all, prefix_len, All, AllByRecursion}
@@ -57,7 +58,7 @@ unlisted (e ∷ table) word none h = go (unlisted table word none.1) (bytes_eq w
     go rest false is k =
         or_from (bytes_eq e.0 word) (is_among (map (λ e. e.0) table) word) (other false is refl) (rest k)
 
--- what is not among more names is not among these
+-- a word that is not among more names is not among these
 not_more : (names more : List (List ℕ)) (word : List ℕ) → is_among (names ++ more) word ≡ false → is_among names word ≡ false
 not_more [] more word h = refl
 not_more (n ∷ names) more word h =
@@ -71,7 +72,7 @@ no_keyword word h =
 
 -- ---- words
 
--- bytes that are a run as a whole
+-- if the longest front part that passes is the whole list, each byte passes
 all_pass : (p : ℕ → Bool) (xs : List ℕ) → prefix_len p xs ≡ length xs → list_all p xs ≡ true
 all_pass p [] h = refl
 all_pass p (x ∷ xs) h = go (all_pass p xs) (p x) refl h

@@ -1,5 +1,6 @@
--- A program is compiled to one code: classes are numbered in the order of their first members, so what joins them decides
--- them, and with them the least summaries.
+-- A program has one compiled code. Its classes are numbered in the order of their first members, so two numberings of the same joins
+-- agree: at the first place where they differ, neither number can be the smaller one (`not_less`). The least summaries follow from the
+-- classes, and the lists of each instruction from both.
 use Rattle.std.proofs.Common.{◌≡◌, ◌≢◌, ◌<◌, ◌≤◌, ◌⊎◌, inl, inr, ℕ, zero, suc, Bool, true, false, List, [], ◌∷◌, ◌++◌, length, Option, Some, None, refl, sym, ap, ◌∙◌, subst, arith, slice_get, get_or}
 use Rattle.std.specs.Option.{option_map}
 use Rattle.std.proofs.lemmas.Bool.{cases_lt}
@@ -44,7 +45,7 @@ there {A} c n within = of ((slice_get_cases c n).1)
 
 -- ---- lists of classes
 
--- what the one list joins or leaves without a class, the other does, too; the one is numbered in order
+-- what list a joins, or leaves without a class, list b does as well; and a is numbered in order
 record JoinsAs (a b : List Class) : Type 0 where
   len : length a ≡ length b
   none : (i : ℕ) → slice_get a i ≡ Some class.NoClass → slice_get b i ≡ Some class.NoClass
@@ -53,7 +54,7 @@ record JoinsAs (a b : List Class) : Type 0 where
       → slice_get b i ≡ slice_get b j
   numbered : AreNumbered a
 
--- the lists are one up to a position
+-- the lists agree before a position
 abbrev AreSameBefore : List Class → List Class → ℕ → Type 0
 AreSameBefore a b n = (i : ℕ) → i < n → slice_get a i ≡ slice_get b i
 

@@ -1,4 +1,6 @@
--- The code of a program is printable, if its text is within the limit and its constants and places fit.
+-- The code of a program is printable, if its text is within the limit and its constants and places fit. The numbers of variables,
+-- fields, targets and regions need no premise of their own: the text has a byte for each, so they are below its length
+-- (TextLengths.antt, RegionNumbers.antt).
 use Rattle.std.proofs.Common.{◌≡◌, inl, inr, ℕ, ◌+◌, ◌<◌, ◌≤◌, ◌^◌, List, [], ◌∷◌, length, map, Option, Some, None, slice_get, get_or, is_some, refl, sym, ap, ◌∙◌, subst, arith}
 use Rattle.std.specs.Prelude.{IfSome, option_to_list}
 use Rattle.std.specs.List.{All, Contains}

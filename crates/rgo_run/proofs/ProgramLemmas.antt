@@ -1,5 +1,5 @@
--- The program of every valid text is well-formed and not too large, its code is typed, and what is inserted makes it
--- compiled code.
+-- The program of every valid text is well-formed and not too large, its code is typed, and the insertion makes it compiled code. Each
+-- is a law of a stage, applied to what the stages before it have returned.
 use Rattle.std.proofs.Common.{◌≡◌, ℕ, List, sym, subst, arith}
 use Rattle.std.specs.List.{AllByRecursion}
 use Rattle.rgo_wellformed.specs.Endings.{Ends}

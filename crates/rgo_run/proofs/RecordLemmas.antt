@@ -1,4 +1,6 @@
--- What `record` leaves of a text: the run that was noted, its journal, and the line of its ending.
+-- What `record` leaves of a text: the run that was noted, its journal, and the line of its ending. Two writes go to `err`, and either
+-- may fail. So the lemmas on reports are about a sink that has taken some bytes already (`reports_after`), and with the journal as
+-- those bytes the claims on `run` carry over.
 use Rattle.std.proofs.Common.{◌≡◌, ◌⊎◌, inl, inr, ℕ, zero, suc, Bool, true, false, List, [], ◌++◌, take, length, Option, None, Some, refl, sym}
 use Rattle.std.proofs.Common.{ap, ◌∙◌, subst, arith, append-nil, length-append}
 use Rattle.std.proofs.KnownBytes.{Appends-nil}
@@ -29,7 +31,7 @@ use Rattle.rgo_run.specs.declared.endings.Ending.TheVariants.{Ran, NoMemory, Usa
 use Rattle.rgo_run.specs.declared.refusals.CodeTextRefusal.TheVariants as code_refusal
 use Rattle.rgo_run.specs.declared.refusals.TextRefusal.TheVariants as refusal
 use Rattle.rgo_run.specs.declared.endings.TextKind.TheVariants as text_kind
-use Rattle.rgo_run.specs.Calls.{AsksForCommand, Call, SinkUse, Failed, SinkHeld, SinkGrew, IsUntouched, sink_use}
+use Rattle.rgo_run.specs.Calls.{AsksForCommand, Call, SinkUse, Failed, SinkHadNoFault, SinkGrew, IsUntouched, sink_use}
 use Rattle.rgo_run.specs.Compiled.{IsCompiledFrom}
 use Rattle.rgo_run.specs.Endings.{line_of, status_of}
 use Rattle.rgo_run.specs.Headline.{EndsRun}
@@ -55,7 +57,7 @@ grew_after None mid new said bytes p q = tt
 grew_after (Some x) None new said bytes p q = absurd p
 grew_after (Some x) (Some y) new said bytes p q = subst (λ l. Appends (Some l) new bytes) p q
 
--- the same of a write that may have failed, with the counts of the sink before both
+-- the same for a write that may have failed, with the counts of the sink before both
 writes_after : (old mid new : Option (List ℕ)) (before between now : ℕ) (broken : Bool) (said line : List ℕ)
     (status answer : ℕ) → Appends old mid said → between ≡ before
     → WritesLine line status answer (sink_use mid new between now broken)
@@ -130,7 +132,7 @@ refuses options text e status out err fails untouched reports = (
   inr (record { ending = e; fails = fails; untouched = untouched; silent = refl; reports = reports }),
 )
 
--- where there was no memory to begin, there was nothing to write
+-- if memory ran out before the run, there was nothing to write
 no_run_kept : (options : RunOptions) (text : List ℕ) (e : Ending) (bytes : List ℕ) (status : ℕ) (out err : SinkUse)
     → e ≡ NoMemory → IsUntouched out → bytes ≡ [] → ReportsKept text e bytes status err → RecordsText options text status out err
 no_run_kept options text e bytes status out err is untouched empty (inl reports) =
@@ -185,7 +187,7 @@ kept_none end picks e bytes no_fault is empty = inr (no_fault, is, empty)
 no_stats : (asked : Bool) (end : RunEnd) (made : Counts) → asked ≡ false → IsSaid asked end made None
 no_stats asked end made is = subst (λ b. IsSaid b end made None) (sym is) tt
 
--- a run in rounds is one in any order
+-- a run of one goroutine at a time is a run in some order
 abbrev runs_freely : (code : Tac) (limits : Limits) (end : RunEnd) (old new : Option (List ℕ))
     → RunsInRounds (tac code) limits (tac_start code) end old new → RunsFreely (tac code) limits (tac_start code) end old new
 runs_freely code limits end old new x = record {
@@ -201,7 +203,7 @@ runs_freely code limits end old new x = record {
 module _ (options : RunOptions) (text : List ℕ) (program : Typed) (code : Code) (is_program : IsTypedProgram text program)
     (compiled : IsCompiledFrom program code) (r : Recorded) (out : SinkUse)
     (records : recording.Records code options.sizes options.limits out.old out.new r) (plain : options.stats ≡ false)
-    (failed : r.end ≡ run_end.WriteFault → Failed out) (held : (r.end ≡ run_end.WriteFault → ⊥) → SinkHeld out) where
+    (failed : r.end ≡ run_end.WriteFault → Failed out) (held : (r.end ≡ run_end.WriteFault → ⊥) → SinkHadNoFault out) where
   ended : Ended r.world records.runs.before (record records.runs.runs.state { printed = r.world.state.printed }) r.end
   ended = ended_so r.world records.runs.before
       (record records.runs.runs.state { printed = r.world.state.printed }) r.end records.runs.left.leaves
@@ -236,7 +238,7 @@ module _ (options : RunOptions) (text : List ℕ) (program : Typed) (code : Code
     goes_on = recorded_goes_on code options.sizes options.limits out.old out.new r records;
   }
 
-  -- where there was no memory for its journal
+  -- if there was no memory for its journal
   pub noted_cut : (r.end ≡ run_end.WriteFault → ⊥)
       → Noted options text (Ran text_kind.Go run_end.NoMemory None) out (noted_picks r.notes)
   unfolding noted_run
@@ -296,7 +298,7 @@ Broke sink = Rose sink.faults_old sink.faults_new × (sink.broken ≡ true)
 broke : (said : List ℕ) (err : SinkUse) → Failed (rest said err) → Broke err
 broke said err f = (f.counted, f.broken)
 
--- a write failed, where the answer says so
+-- if the status is 10, a write failed
 pub write_failed : (options : RunOptions) (text : List ℕ) (n : ℕ) (out err : SinkUse) → RecordsText options text n out err
     → n ≡ 10 → Broke out ⊎ Broke err
 write_failed options text n out err (said, inl r) ten = by r.reports

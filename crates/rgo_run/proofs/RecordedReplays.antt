@@ -1,4 +1,6 @@
--- A journal that `record` wrote, replayed with its text.
+-- A journal that `record` wrote, replayed with its text. Both calls speak of the same run by three facts: a printed journal is read
+-- back as its picks, a text has one program, and a program has one three-address code. The picks then lead to the same state, since a
+-- pick has at most one step.
 use Rattle.std.proofs.Common.{◌≡◌, ◌⊎◌, inl, inr, ℕ, ◌≤◌, ◌<◌, true, false, List, [], ◌∷◌, ◌++◌, drop, length, IfSome, Option, None, Some, refl, sym}
 use Rattle.std.proofs.Common.{ap, ◌∙◌, subst, arith, true≢false, append_assoc}
 use Rattle.rgo_run.proofs.RecordLemmas.{short_of_no_run}
@@ -55,7 +57,7 @@ grown (Some x) (Some y) said line g = g ∙ append_assoc x said line
 
 -- ---- statuses
 
--- a run that was neither cut by its sinks nor by memory
+-- an end that neither a failed write nor a lack of memory has caused
 abbrev IsRunStatus : RunEnd → Type 0
 IsRunStatus run_end.WriteFault = ⊥
 IsRunStatus run_end.NoMemory = ⊥
@@ -91,7 +93,7 @@ answers end e s same_end = by end e s same_end
     by run_end.WriteFault e s is = absurd s
     by run_end.NoMemory e s is = absurd s
 
--- what a report answers where nothing failed and memory sufficed
+-- the status that a report returns if nothing failed and memory sufficed
 replay_status : (text : List ℕ) (e : ReplayEnding) (n : ℕ) (err : SinkUse) → IsUnhindered n → ReportsReplay text e n err
     → n ≡ status_of_replay e
 replay_status text e n err ok (inl (inl w)) = w.0
@@ -99,7 +101,7 @@ replay_status text e n err ok (inl (inr w)) = absurd (ok.1 w.0)
 replay_status text e n err ok (inr (h, inl w)) = absurd (ok.2 w.0)
 replay_status text e n err ok (inr (h, inr w)) = absurd (ok.1 w.0)
 
--- what the report of a run answers and writes, where the status is that of a run
+-- what the report of a run returns and writes, if the status is that of a run
 pub run_told : (text : List ℕ) (e : Ending) (n : ℕ) (err : SinkUse) → (IsOfNoRun n → ⊥) → Reports text e n err
     → (n ≡ status_of e) × SinkGrew err (line_of text e)
 run_told text e n err of_run (inl (inl w)) = (w.0, w.1)

@@ -1,4 +1,5 @@
--- The names of regions of a function are at most as many as its variables, and so small as these.
+-- The region names of a function are numbers that fit 32 bits, as the numbers of its variables do: a class is numbered after all that
+-- begin before it, so its number is at most the place of its first member.
 use Rattle.std.proofs.Common.{◌≡◌, ⊎_elim, ℕ, zero, suc, ◌+◌, ◌<◌, ◌≤◌, ◌^◌, List, [], ◌∷◌, ◌++◌, length, map, Option, Some, None, slice_get, get_or, is_some, refl, sym, ap, ◌∙◌, subst, arith}
 use Rattle.std.specs.List.{All, Contains}
 use Rattle.std.proofs.lemmas.List.{length-map}
@@ -19,14 +20,14 @@ use Rattle.rgo_insert.proofs.Formals.{formal_is}
 use Rattle.rgo_insert.proofs.RegionNames.{name_of_one}
 use Rattle.rgo_typing_laws.proofs.Lists.{still_there, mapped_at, at_end}
 
--- a class is named after those of all smaller numbers, so that its number is at most its place
+-- a class is numbered after those of all smaller numbers, so its number is at most its place
 numbered_below : (classes : List Class) → AreNumbered classes → (k i : ℕ) → slice_get classes i ≡ Some (Name k) → k ≤ i
 numbered_below classes h zero i e = omega arith
 numbered_below classes h (suc k) i e =
     let before = h i (suc k) k e (omega arith) in
     omega (arith, before.1, numbered_below classes h k before.0 before.2)
 
--- what holds of each item
+-- what holds of each item holds of all
 pub of_each : {A : Type 0} (P : A → Type 0) (xs : List A) → ((x : A) → Contains xs x → P x) → All P xs
 of_each P xs h = All-weaker (Contains xs) P h xs (All-contains_itself xs)
 

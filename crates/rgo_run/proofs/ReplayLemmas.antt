@@ -1,4 +1,5 @@
--- What a call of `replay` leaves, by its ending.
+-- What a call of `replay` leaves, by its ending; and the claim on every call, by whether its words ask for `replay`, for `record`, or
+-- for neither.
 use Rattle.std.proofs.Common.{◌≡◌, true, false, ℕ, ◌⊎◌, inl, inr, ◌-◌, arith, length-drop, take, drop, List, [], Option, None, Some, Result, Ok, Err, IfOk, MatchResult, length, refl, sym, ap, ◌∙◌, subst}
 use Rattle.rgo_machine.specs.declared.ends.RunEnd.TheVariants as run_end
 use Rattle.rgo_machine.specs.declared.picks.End.{End}
@@ -25,10 +26,10 @@ use Rattle.rgo_run.specs.declared.refusals.TextRefusal.TheVariants as refusal
 use Rattle.rgo_run.specs.declared.endings.TextKind.TheVariants as text_kind
 use Rattle.rgo_run.specs.declared.replaying.ReplayEnding.{ReplayEnding}
 use Rattle.rgo_run.specs.declared.replaying.ReplayEnding.TheVariants.{NoJournal, Replayed, Other}
-use Rattle.rgo_run.specs.Calls.{AsksRun, AsksForCommand, Call, SinkUse, SourceHeld, Failed, SinkHeld, IsUntouched}
+use Rattle.rgo_run.specs.Calls.{AsksRun, AsksForCommand, Call, SinkUse, SourceHadNoFault, Failed, SinkHadNoFault, IsUntouched}
 use Rattle.rgo_run.specs.Endings.{is_fault_status, is_run_status, line_of, status_of}
 use Rattle.rgo_run.specs.Headline.{Faults, Headline}
-use Rattle.rgo_run.specs.Replayed.{Claim, EndsOn, HasNumber, IsReadWhole, IsSplit, NotReplayed, ReplayHeadline, ReplaysBytes, ReplaysTo, ReportsReplay, error_of, line_of_replay, status_of_end, status_of_replay}
+use Rattle.rgo_run.specs.Replayed.{Claim, EndsOn, ReplayLineHasNumber, IsReadWhole, IsSplit, NotReplayed, ReplayHeadline, ReplaysBytes, ReplaysTo, ReportsReplay, error_of, line_of_replay, status_of_end, status_of_replay}
 use Rattle.rgo_run.specs.Recorded.{RecordHeadline, RecordsText, call_after}
 use Rattle.rgo_run.specs.Reports.{Reports, ReportsEnding, WritesLine}
 use Rattle.rgo_run.specs.Texts.{FailsAs, IsTextRead, IsTextOf, NotRead, PerformsCommand, RefusedBy}
@@ -40,9 +41,9 @@ use Rattle.rgo_run.proofs.RecordLemmas.{headline_of_records, record_of_words}
 
 -- the line was written; or a write failed; or there was no memory for the line
 data Told (e : ReplayEnding) (n : ℕ) (err : SinkUse) : Type 0 where
-  whole : n ≡ status_of_replay e → SinkHeld err → Told e n err
+  whole : n ≡ status_of_replay e → SinkHadNoFault err → Told e n err
   failed : n ≡ 10 → Failed err → Told e n err
-  no_memory : n ≡ 11 → HasNumber e → SinkHeld err → Told e n err
+  no_memory : n ≡ 11 → ReplayLineHasNumber e → SinkHadNoFault err → Told e n err
 
 told_as : (text : List ℕ) (e : ReplayEnding) (n : ℕ) (err : SinkUse) → ReportsReplay text e n err → Told e n err
 told_as text e n err (inl (inl w)) = whole w.0 w.2
@@ -77,7 +78,7 @@ told_status e n err is (no_memory w h k) = (λ s. cc, λ s. cc)
 
 -- the line of an ending with numbers was written, or there was no memory for it
 pub number_reported : {S : Type 0} (bytes_of : S → List ℕ) (text : List ℕ) (e : ReplayEnding) (line : Result S AllocError)
-    (status answer : ℕ) (err : SinkUse) → HasNumber e → status ≡ status_of_replay e
+    (status answer : ℕ) (err : SinkUse) → ReplayLineHasNumber e → status ≡ status_of_replay e
     → IfOk line (λ s. bytes_of s ≡ line_of_replay text e)
     → MatchResult line (λ s. WritesLine (bytes_of s) status answer err) (λ x. WritesLine (line_of [] NoMemory) 11 answer err)
     → ReportsReplay text e answer err
@@ -86,7 +87,7 @@ number_reported bytes_of text e (Ok s) status answer err number same is writes =
     (subst (λ bytes. WritesLine bytes status answer err) is writes))
 number_reported bytes_of text e (Err x) status answer err number same is writes = inr (number, writes)
 
--- what is reported of a run that ended so
+-- what is reported of a run with this end
 pub ended_reported : (text : List ℕ) (end : End) (answer : ℕ) (err : SinkUse)
     → Reports text (Ran text_kind.Go (run_end.Ended end) None) answer err → ReportsReplay text (Replayed (replay_end.Ended end)) answer err
 ended_reported text end answer err (inl t) = inl t
@@ -108,14 +109,14 @@ pub memory_reported : (text : List ℕ) (answer : ℕ) (err : SinkUse)
 memory_reported text answer err (inl t) = inl t
 memory_reported text answer err (inr t) = absurd t.0
 
--- what another command would report, of an ending that is no failed write
+-- what another command would report, for an ending that is not a failed write
 pub other_reported : (text : List ℕ) (e : Ending) (answer : ℕ) (err : SinkUse) → (status_of e ≡ 10 → ⊥) → Reports text e answer err
     → ReportsReplay text (Other e) answer err
 other_reported text e answer err other (inl t) = inl t
 other_reported text e answer err other (inr t) =
     inr (t.0, subst (λ x. ReportsEnding text x answer err) (short_without_fault e other) t.1)
 
--- nothing that is reported of bytes that were not replayed is a failed write
+-- bytes that were not replayed never end with a failed write, since nothing was written
 pub not_written : (bytes text : List ℕ) (ending : ReplayEnding) (out : SinkUse) → EndsOn bytes text ending out → (e : Ending)
     → ending ≡ Other e → status_of e ≡ 10 → ⊥
 not_written bytes text ending out ends e is ten =
@@ -156,7 +157,7 @@ split_at bytes picks n j = record {
 
 -- ---- faults
 
--- with status 10 of an ending a write to `out` failed, and with no other
+-- an ending with status 10 is a failed write to `out`, and no other is
 ends_failed : (bytes text : List ℕ) (e : ReplayEnding) (out : SinkUse) → EndsOn bytes text e out → status_of_replay e ≡ 10
     → Failed out
 ends_failed bytes text (NoJournal line) out ends s = absurd cc
@@ -170,13 +171,13 @@ ends_failed bytes text (Replayed replay_end.NoMemory) out ends s = absurd cc
 ends_failed bytes text (Other e) out ends s = absurd (failing_ten e (not_replayed bytes text e ends.0) s)
 
 ends_held : (bytes text : List ℕ) (e : ReplayEnding) (out : SinkUse) → EndsOn bytes text e out
-    → (e ≡ Replayed replay_end.WriteFault → ⊥) → SinkHeld out
+    → (e ≡ Replayed replay_end.WriteFault → ⊥) → SinkHadNoFault out
 ends_held bytes text (NoJournal line) out ends kept = ends.1.1
 ends_held bytes text (Replayed end) out ends kept = ends.2.held (λ is. kept (ap Replayed is))
 ends_held bytes text (Other e) out ends kept = ends.1.1
 
-number_no_fault : (e : ReplayEnding) → HasNumber e → e ≡ Replayed replay_end.WriteFault → ⊥
-number_no_fault e h is = subst HasNumber is h
+number_no_fault : (e : ReplayEnding) → ReplayLineHasNumber e → e ≡ Replayed replay_end.WriteFault → ⊥
+number_no_fault e h is = subst ReplayLineHasNumber is h
 
 status_no_fault : (e : ReplayEnding) (n : ℕ) → n ≡ status_of_replay e → is_fault_status n ≡ false
     → e ≡ Replayed replay_end.WriteFault → ⊥
@@ -188,7 +189,7 @@ ten_is_fault : (n : ℕ) → n ≡ 10 → is_fault_status n ≡ false → ⊥
 ten_is_fault n is s = let wrong = subst (λ k. is_fault_status k ≡ false) is s in cc
 
 -- a call that has read its bytes
-faults_of : (call : Call) (bytes text : List ℕ) (e : ReplayEnding) → EndsOn bytes text e call.out → SourceHeld call.source
+faults_of : (call : Call) (bytes text : List ℕ) (e : ReplayEnding) → EndsOn bytes text e call.out → SourceHadNoFault call.source
     → Told e call.status call.err → Faults call
 faults_of call bytes text e ends held told = record {
   read = λ s. absurd ((told_status e call.status call.err (ends_status bytes text e call.out ends) told).1 s);
@@ -202,7 +203,7 @@ faults_of call bytes text e ends held told = record {
     write (no_memory w h k) s = absurd cc
 
     none : Told e call.status call.err → is_fault_status call.status ≡ false
-        → SourceHeld call.source × SinkHeld call.out × SinkHeld call.err
+        → SourceHadNoFault call.source × SinkHadNoFault call.out × SinkHadNoFault call.err
     none (whole w h) s = (held, ends_held bytes text e call.out ends (status_no_fault e call.status w s), h)
     none (failed w h) s = absurd (ten_is_fault call.status w s)
     none (no_memory w h k) s = (held, ends_held bytes text e call.out ends (number_no_fault e h), k)
@@ -295,12 +296,12 @@ asks_record (Some Replay) = inr (λ options s. cc)
 asks_record (Some (RunCode given)) = inr (λ options s. cc)
 asks_record (Some (Record options)) = inl (options, refl)
 
--- what a source has left, where it reports that
+-- what a source has left, if it reports that
 abbrev left_bytes : Option (List ℕ) → List ℕ
 left_bytes None = []
 left_bytes (Some bytes) = bytes
 
-outside_faults : (call : Call) (e : Ending) → IsUntouched call.out → SourceHeld call.source → (status_of e ≡ 9 → ⊥)
+outside_faults : (call : Call) (e : Ending) → IsUntouched call.out → SourceHadNoFault call.source → (status_of e ≡ 9 → ⊥)
     → (status_of e ≡ 10 → ⊥) → Told (Other e) call.status call.err → Faults call
 outside_faults call e u held nine ten (whole w h) = record {
   read = λ s. absurd (nine (sym w ∙ s));
@@ -412,7 +413,7 @@ unfinished call (inr (inl c)) s =
 unfinished call (inr (inr c)) s = absurd (not_13 c.2.text c.2.ending call.status call.err c.2.end.told s)
 
 pub held : (call : Call) → Claim call → is_fault_status call.status ≡ false
-    → SourceHeld call.source × SinkHeld call.out × SinkHeld call.err
+    → SourceHadNoFault call.source × SinkHadNoFault call.out × SinkHadNoFault call.err
 held call (inl c) s = c.1.faults.none s
 held call (inr (inl c)) s = c.2.as_run.faults.none s
 held call (inr (inr c)) s = c.2.faults.none s

@@ -1,5 +1,6 @@
--- How many pages and regions are enough: a page or a region more would pass the bounds on what a run makes. A page that is taken
--- leaves the bound on pages, which is of the three-address state.
+-- How many pages and regions are enough: one more would exceed the bounds on what a run makes. If a page is lacking, the machine
+-- without limits can still take it, and `safety` bounds the pages after that step. The bound is the same before it, since a page leaves
+-- the three-address state as it was.
 use Rattle.std.proofs.Common.{◌≡◌, ℕ, zero, suc, ◌+◌, ◌*◌, [], ◌∷◌, ◌++◌, length, max, sum_by, Option, Some, None, refl, ap}
 use Rattle.std.proofs.Common.{◌∙◌, subst, arith}
 use Rattle.std.specs.Prelude.{IsSome, option_and_then}
@@ -23,7 +24,7 @@ use Rattle.rgo_run.specs.Headline.{AlwaysHas}
 use Rattle.rgo_run.specs.Runs.{IsCodeFor, Runnable, of_code, of_program}
 use Rattle.rgo_run.specs.Sufficing.{Always, FewPages, FewSteps, FewSuffice}
 
--- what there is
+-- the value that exists
 there : {T : Type 0} (o : Option T) → IsSome o → (x : T) × (o ≡ Some x)
 there None some = cc
 there (Some x) some = (x, refl)

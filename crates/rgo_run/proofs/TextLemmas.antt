@@ -68,7 +68,7 @@ use Rattle.rgo_run.specs.declared.refusals.TextError.{TextError}
 use Rattle.rgo_run.specs.declared.refusals.TextError.TheVariants as text_failure
 use Rattle.rgo_run.specs.Compiled.{IsCompiled, WritesCode}
 use Rattle.rgo_run.specs.Constants.{TacConstantsFit}
-use Rattle.rgo_run.specs.Calls.{SourceUse, SourceFailed, SourceHeld, SinkUse, Failed, SinkHeld, text_kind_of}
+use Rattle.rgo_run.specs.Calls.{SourceUse, SourceFailed, SourceHadNoFault, SinkUse, Failed, SinkHadNoFault, text_kind_of}
 use Rattle.rgo_run.specs.Errors.{command_error, read_error, too_long, lex_error, type_error, reading_error, check_error, text_error, code_text_error}
 use Rattle.rgo_run.specs.Runs.{HasSourceRun, IsCodeFor, IsRunnable, IsSaid, Runnable, SourceRun, of_code, of_program}
 use Rattle.rgo_run.specs.CodeVerdicts.{IsTextOfCode, code_limit, CodePasses}
@@ -81,7 +81,7 @@ use Rattle.rgo_run.proofs.CodeLengths.{lines_take_bytes}
 abbrev pub Reads : Command → Type 0
 Reads command = (n : ℕ) → command ≡ Big n → ⊥
 
--- what the source had left is the text of a command that reads it
+-- what the source had left is the text of a command that reads its text
 left_is_text : (command : Command) (left : Option (List ℕ)) (text : List ℕ) → Reads command
     → IfSome left (λ bytes. text ≡ bytes) → IsTextOf (Some command) left text
 left_is_text (Run options) left text reads is = is
@@ -96,7 +96,7 @@ left_is_text (Big n) left text reads is = absurd (reads n refl)
 -- the bytes that were read to the end are the text
 pub all_read : (command : Command) (w : List (List ℕ)) (source : SourceUse) (rest : Option (List ℕ)) (bytes : List ℕ)
     → command_of w ≡ Some command → Reads command → ReadsAll (byte_limit (text_kind_of command)) source.left rest bytes
-    → SourceHeld source → IsTextRead w source command bytes
+    → SourceHadNoFault source → IsTextRead w source command bytes
 all_read command w source rest bytes asked reads read held = record {
   asked = asked;
   is_text = left_is_text command source.left bytes reads
@@ -107,7 +107,7 @@ all_read command w source rest bytes asked reads read held = record {
 
 -- the large text is within the limit
 pub big_read : (n : ℕ) (w : List (List ℕ)) (source : SourceUse) (text : List ℕ) → command_of w ≡ Some (Big n)
-    → IsBig n → text ≡ big_text n → length text ≤ 71 * n + 364 → SourceHeld source → IsTextRead w source (Big n) text
+    → IsBig n → text ≡ big_text n → length text ≤ 71 * n + 364 → SourceHadNoFault source → IsTextRead w source (Big n) text
 big_read n w source text asked few is short held = record {
   asked = asked;
   is_text = is;
@@ -128,7 +128,7 @@ too_long_refused text_kind.Go text h = h
 too_long_refused text_kind.Code text h = h
 
 too_much : (command : Command) (w : List (List ℕ)) (source : SourceUse) (rest : Option (List ℕ))
-    → command_of w ≡ Some command → Reads command → SourceHeld source
+    → command_of w ≡ Some command → Reads command → SourceHadNoFault source
     → GivesTooMany (byte_limit (text_kind_of command)) source.left rest → ReadTooMuch w source (too_long (text_kind_of command))
 too_much command w source rest asked reads held gave =
     let t = longer (byte_limit (text_kind_of command)) source.left rest gave in
@@ -151,7 +151,7 @@ limit_is_small text_kind.Go = omega arith
 limit_is_small text_kind.Code = omega arith
 
 pub no_words : (w : List (List ℕ)) (source : SourceUse) (error : WordsError)
-    → (error ≡ words.Usage → command_of w ≡ None) → SourceHeld source → NotRead w source (command_error error)
+    → (error ≡ words.Usage → command_of w ≡ None) → SourceHadNoFault source → NotRead w source (command_error error)
 no_words w source words.Usage asked held = (asked refl, held)
 no_words w source words.NoMemory asked held = held
 
@@ -159,8 +159,8 @@ pub no_text : (command : Command) (w : List (List ℕ)) (source : SourceUse) (re
     → command_of w ≡ Some command
     → Reads command
     → (end ≡ read.Fault → SourceFailed source)
-    → (end ≡ read.TooLong → SourceHeld source × GivesTooMany (byte_limit (text_kind_of command)) source.left rest)
-    → (end ≡ read.NoMemory → SourceHeld source) → NotRead w source (read_error (text_kind_of command) end)
+    → (end ≡ read.TooLong → SourceHadNoFault source × GivesTooMany (byte_limit (text_kind_of command)) source.left rest)
+    → (end ≡ read.NoMemory → SourceHadNoFault source) → NotRead w source (read_error (text_kind_of command) end)
 no_text command w source rest read.Fault asked reads fault long memory = ((command, asked), fault refl)
 no_text command w source rest read.TooLong asked reads fault long memory =
     let h = long refl in not_read (text_kind_of command) w source (too_much command w source rest asked reads h.0 h.1)
@@ -218,7 +218,7 @@ followed limits program code before steps end t ends run = record {
       (dead, deadlocks_wait (source program) run.0 dead);
 }
 
--- a run of the region machine, which is safe in each of its states, and of which no step follows the end
+-- a run of the region machine, which is safe in each of its states; no step follows its end, since one goroutine is driven at a time
 abbrev pub region_run_of : (code : code.Code) (sizes : Sizes) (end : RunEnd) (t : TacState) (events : List Event) (state : RegionState)
     → IsChecked code → Ascends code → roomy_run code sizes events ≡ Some state
     → plain_at state t.printed ≡ t → state.plain.printed ≡ t.printed
@@ -258,7 +258,7 @@ pub ran : (kind : TextKind) (options : RunOptions) (text : List ℕ) (what : Run
     → (regions : RegionRun code options.sizes end runs.state) → runs.picks ≡ picks_of code options.sizes regions.events
     → (end ≡ StepsSpent → (counts_of regions.last).steps < options.limits.steps + 1000 * (counts_of regions.last).goroutines)
     → IsSaid options.stats end (counts_of regions.last) stats
-    → (end ≡ WriteFault → Failed out) → ((end ≡ WriteFault → ⊥) → SinkHeld out)
+    → (end ≡ WriteFault → Failed out) → ((end ≡ WriteFault → ⊥) → SinkHadNoFault out)
     → RunsOrFails kind options text (Ran kind end stats) out
 ran kind options text what code end stats out is_what is_code runs regions same spent said failed held = inl (
   record {

@@ -1,4 +1,5 @@
--- The text of code is at least as long as a function has variables and instructions, and as a struct has fields.
+-- The text of code is at least as long as a function has variables and instructions, and as a struct has fields. So in a text within
+-- the limit all of these numbers fit 32 bits.
 use Rattle.std.proofs.Common.{◌≡◌, ℕ, zero, suc, ◌+◌, ◌≤◌, List, [], ◌∷◌, ◌++◌, length, map, Some, slice_get, refl, ap, subst, arith}
 use Rattle.std.specs.Prelude.{codes}
 use Rattle.std.specs.List.{flat_map, join_with_byte}

@@ -1,4 +1,5 @@
--- Each text is at most one program, and is valid or has one refusal, never both.
+-- Each text is at most one program, and is valid or has one refusal, never both. Each stage has this law for itself. They fit together
+-- because a text has one list of lexemes: what holds of one list of them holds of the other (`moved`).
 use Rattle.std.proofs.Common.{◌≡◌, ℕ, ◌<◌, ◌≤◌, ◌⊎◌, inl, inr, List, length, Option, Some, None, refl, sym, ap, ◌∙◌, subst, arith}
 use Rattle.std.proofs.lemmas.Bool.{cases_lt}
 use Rattle.rgo_lexer.specs.declared.refusals.LexRefusal.{LexRefusal}
@@ -20,7 +21,7 @@ use Rattle.rgo_run.specs.Positions.{lexeme_place}
 use Rattle.rgo_run.specs.Verdicts.{text_limit, IsTree, IsWellTyped, IsValidProgram, IsTypedProgram, IsRefused, IsMistyped, Refused, OneVerdict}
 use Rattle.rgo_parser.proofs.Answered as parser
 
--- what was said of one list of lexemes is said of the other
+-- what holds of one list of lexemes of a text holds of the other
 moved : (text : List ℕ) (a b : List Lexeme) (P : List Lexeme → Type 0) → LexesAs text a → LexesAs text b → P a → P b
 moved text a b P s t h = subst P (lexer.one_list text a b s t) h
 
@@ -48,7 +49,7 @@ moved_rule text tree refusal a w =
 not_mistyped : (text : List ℕ) (tree : Program) (refusal : TypeRefusal) → IsWellTyped text tree → IsMistyped text refusal → ⊥
 not_mistyped text tree refusal a w = let broken = moved_rule text tree refusal a.is_tree w in let none = a.unbroken in cc
 
--- what is within the rules breaks none
+-- a text that keeps the rules breaks none
 keeps : (text : List ℕ) (tree : Program) (why : TextRefusal) → IsWellTyped text tree → Refused text why → ⊥
 keeps text tree TooLong a r = omega (arith, a.is_tree.within)
 keeps text tree (Lexical refusal) a r = not_lexical text tree refusal a.is_tree r.1

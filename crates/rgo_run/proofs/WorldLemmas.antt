@@ -1,4 +1,4 @@
--- A world in which a recorded run has ended: the run of the region machine.
+-- A recorded run that has ended: from what is known of its world, the run of the region machine.
 use Rattle.std.proofs.Common.{◌≡◌, ℕ, List, ◌++◌, refl, sym, ◌∙◌, subst}
 use Rattle.rgo_machine.specs.declared.limits.Sizes.{Sizes}
 use Rattle.rgo_machine.specs.declared.limits.Shortage.{Shortage}
@@ -12,7 +12,7 @@ use Rattle.rgo_region_interpreter.specs.declared.worlds.World.{World}
 use Rattle.rgo_region_interpreter.specs.Worlds.{WorldLacks, WorldReaches}
 use Rattle.rgo_run.proofs.TextLemmas.{region_run_of}
 
--- by one run of the region machine: why there was no room
+-- what one run of the region machine shows: where it is, and why there was no room
 pub record Ended (w : World) (before : List ℕ) (p : TacState) (end : RunEnd) : Type 0 where
   pub reaches : WorldReaches w before p
   pub lacks : (why : Shortage) → end ≡ run_end.NoRoom why → LacksIn w.code.now w.sizes why reaches.state

@@ -1,4 +1,5 @@
--- One call of `rgo` as data: what it was given and what it left. All claims of the headline are about such a record.
+-- One call of `rgo` as data: what it was given and what it left. All claims of the headline are about such a record, and none about the
+-- types of sources and sinks, so they are the same for a test as for the standard streams.
 use Rattle.std.specs.Prelude.{◌≡◌, ℕ, Bool, true, List, [], Option, Some, None, option_and_then}
 use Rattle.std.specs.Io.KnownBytes.{Appends}
 use Rattle.rgo_outside.specs.Causes.{Rose}
@@ -11,13 +12,15 @@ use Rattle.rgo_command_line.specs.Limits.{default_options}
 use Rattle.rgo_run.specs.declared.endings.TextKind.{TextKind}
 use Rattle.rgo_run.specs.declared.endings.TextKind.TheVariants as text_kind
 
--- the source in a call: the bytes it had left, if it reports them, and its count of faults before and after
+-- The source in a call: the bytes it had left, if it reports them, and its count of faults before and after. Without such a report the
+-- claims are about some text that the source may have had.
 pub record SourceUse : Type 0 where
   pub left : Option (List ℕ)
   pub faults_old : ℕ
   pub faults_new : ℕ
 
--- a sink in a call: what it held before and after, if it reports that, its count of faults, and whether its last write failed
+-- A sink in a call: its bytes and its count of faults before and after, and whether its last write failed. The bytes are unknown if the
+-- sink does not report them.
 pub record SinkUse : Type 0 where
   pub old : Option (List ℕ)
   pub new : Option (List ℕ)
@@ -42,6 +45,7 @@ abbrev pub use_of : {S : Type 0} → sinks.Ghosts S → (old new : S) → SinkUs
 use_of sink old new =
     sink_use (sink.contents old) (sink.contents new) (sink.faults old) (sink.faults new) (sink.broken new)
 
+-- the words of the command line, the source, both sinks, and the status; each word is a list of bytes, and the first is the program's name
 pub record Call : Type 0 where
   pub words : List (List ℕ)
   pub source : SourceUse
@@ -76,39 +80,45 @@ AsksRun words = (kind : TextKind) × (options : RunOptions) × AsksRunWith words
 abbrev pub AsksForCommand : Call → Command → Type 0
 AsksForCommand call command = command_of call.words ≡ Some command
 
+-- the words of the call ask for a run of a text of this kind, with these options
 abbrev pub IsRunCall : Call → TextKind → RunOptions → Type 0
 IsRunCall call kind options = AsksRunWith call.words kind options
 
-abbrev pub IsCheck : Call → Type 0
-IsCheck call = AsksForCommand call Check
+-- the call asks only whether a text is a valid program
+abbrev pub AsksCheck : Call → Type 0
+AsksCheck call = AsksForCommand call Check
 
-abbrev pub IsEmit : Call → Type 0
-IsEmit call = AsksForCommand call Emit
+-- the call asks for the code of a program, with its regions, as a text on `out`
+abbrev pub AsksEmit : Call → Type 0
+AsksEmit call = AsksForCommand call Emit
 
-abbrev pub IsCode : Call → Type 0
-IsCode call = AsksForCommand call Code
+-- the call asks only whether a code text is well formed and keeps all rules
+abbrev pub AsksCode : Call → Type 0
+AsksCode call = AsksForCommand call Code
 
--- a read failed
+-- A read failed, by the count of faults. A count of 2^64 - 1 cannot rise, so at that count this and the next definition both hold,
+-- whether or not a read failed.
 abbrev pub SourceFailed : SourceUse → Type 0
 SourceFailed source = Rose source.faults_old source.faults_new
 
--- no read failed
-abbrev pub SourceHeld : SourceUse → Type 0
-SourceHeld source = source.faults_new ≡ source.faults_old
+-- no read failed, by the count of faults
+abbrev pub SourceHadNoFault : SourceUse → Type 0
+SourceHadNoFault source = source.faults_new ≡ source.faults_old
 
--- a write failed, and nothing was written after it
+-- A write failed, and nothing was written after it, so the sink has a front part of the bytes that were due, without a gap. At a count of
+-- 2^64 - 1, `counted` and the next definition both hold, as for a source.
 pub record Failed (sink : SinkUse) : Type 0 where
   pub counted : Rose sink.faults_old sink.faults_new
   pub broken : sink.broken ≡ true
 
--- no write failed
-abbrev pub SinkHeld : SinkUse → Type 0
-SinkHeld sink = sink.faults_new ≡ sink.faults_old
+-- no write failed, by the count of faults; this says nothing of the bytes in the sink
+abbrev pub SinkHadNoFault : SinkUse → Type 0
+SinkHadNoFault sink = sink.faults_new ≡ sink.faults_old
 
--- these bytes were appended to what the sink held, if it reports that
+-- these bytes, and no others, were appended to those of the sink, if it reports its bytes
 abbrev pub SinkGrew : SinkUse → List ℕ → Type 0
 SinkGrew sink bytes = Appends sink.old sink.new bytes
 
--- nothing was written
+-- nothing was written, and no write failed
 abbrev pub IsUntouched : SinkUse → Type 0
-IsUntouched sink = SinkGrew sink [] × SinkHeld sink
+IsUntouched sink = SinkGrew sink [] × SinkHadNoFault sink

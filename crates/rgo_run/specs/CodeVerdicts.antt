@@ -21,7 +21,8 @@ pub record IsTextOfCode (text : List ℕ) (code : Code) : Type 0 where
   pub written : HasCodeText code
   pub text_is : text ≡ text_of code
 
--- the text is the text of this code, which keeps all rules, and whose lists of names are all ascending
+-- The text is the text of this code, which keeps all rules, and whose lists of names are all ascending. The order is an invariant of
+-- the type `Code`, so no rule has to check it.
 pub record IsCheckedText (text : List ℕ) (code : Code) : Type 0 where
   pub is_text : IsTextOfCode text code
   pub checked : IsChecked code

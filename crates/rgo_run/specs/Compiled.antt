@@ -13,7 +13,7 @@ use Rattle.rgo_insert.specs.Inserted.{HasClasses}
 use Rattle.rgo_code_printing.specs.Text.{text_of}
 use Rattle.rgo_run.specs.declared.endings.Ending.{Ending}
 use Rattle.rgo_run.specs.declared.endings.Ending.TheVariants.{Valid, WriteFault}
-use Rattle.rgo_run.specs.Calls.{SinkUse, Failed, SinkGrew, SinkHeld}
+use Rattle.rgo_run.specs.Calls.{SinkUse, Failed, SinkGrew, SinkHadNoFault}
 use Rattle.rgo_run.specs.CodeVerdicts.{code_limit, CodePasses}
 use Rattle.rgo_run.specs.Verdicts.{IsTypedProgram}
 
@@ -28,10 +28,12 @@ pub record IsCompiledFrom (program : Typed) (code : Code) : Type 0 where
   pub checked : IsChecked code
   pub ascends : Ascends code
 
--- a program has at most one compiled code
+-- A program has at most one compiled code. Without this, `emit` and `run` could each have a code of their own for the same text.
 abbrev pub OneCompiled : Type 0
 OneCompiled = (program : Typed) (a b : Code) → IsCompiledFrom program a → IsCompiledFrom program b → a ≡ b
 
+-- The text is a valid program, and this is its code with regions. There is at most one such code: `OneCompiled` for the program, and
+-- `OneVerdict` of Verdicts.antt for the text.
 pub record IsCompiled (text : List ℕ) (code : Code) : Type 0 where
   pub program : Typed
   pub is_program : IsTypedProgram text program
@@ -44,9 +46,9 @@ pub record IsCodeText (text bytes : List ℕ) : Type 0 where
   pub is_text : bytes ≡ text_of code
   pub accepted : length bytes ≤ code_limit → CodePasses bytes
 
--- the bytes were written; or a write failed after a front part of them
+-- the bytes were written; or a write failed after a front part of them, and the ending says so
 abbrev pub WritesCode : List ℕ → Ending → SinkUse → Type 0
-WritesCode bytes Valid out = SinkGrew out bytes × SinkHeld out
+WritesCode bytes Valid out = SinkGrew out bytes × SinkHadNoFault out
 WritesCode bytes WriteFault out = Failed out × (n : ℕ) × SinkGrew out (take n bytes)
 WritesCode bytes _ out = ⊥
 

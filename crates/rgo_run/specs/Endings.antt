@@ -44,7 +44,7 @@ status_of (CodeRefused why) = 1
 status_of WriteFault = 10
 status_of NoMemory = 11
 
--- a status that only a run returns
+-- a status that only a run returns; 0, 10 and 11 are not among them, since other endings have them, too
 abbrev pub is_run_status : ℕ → Bool
 is_run_status status =
     status == 2 || status == 3 || status == 4 || status == 5 || status == 6 || status == 7 || status == 8 || status == 12
@@ -91,11 +91,13 @@ line_of_run kind text run_end.GoroutinesSpent = codes "rgo: goroutines spent\n"
 line_of_run kind text run_end.WriteFault = codes "rgo: write failed\n"
 line_of_run kind text run_end.NoMemory = codes "rgo: out of memory\n"
 
+-- the part of the line of counts that is about regions and pages
 abbrev pub regions_made : Tally → List ℕ
 regions_made tally =
     codes "regions " ++ (decimal tally.made ++ (codes " removed " ++ (decimal tally.removed
     ++ (codes " pages " ++ (decimal tally.taken ++ (codes " returned " ++ (decimal tally.returned ++ codes " ")))))))
 
+-- the rest of that line
 abbrev pub others_made : Tally → List ℕ
 others_made tally =
     codes "objects " ++ (decimal tally.objects ++ (codes " goroutines " ++ (decimal tally.goroutines ++ codes "\n")))
@@ -104,6 +106,7 @@ others_made tally =
 abbrev pub stats_lines : Tally → (lines : List ℕ) → List ℕ
 stats_lines tally lines = codes "rgo: " ++ (regions_made tally ++ (others_made tally ++ lines))
 
+-- the line of a run's end, after that of its counts; `None` if no counts were asked for, or if there was no memory for their line
 abbrev pub lines_of_run : TextKind → List ℕ → RunEnd → Option Tally → List ℕ
 lines_of_run kind text end None = line_of_run kind text end
 lines_of_run kind text end (Some tally) = stats_lines tally (line_of_run kind text end)

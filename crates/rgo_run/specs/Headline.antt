@@ -25,7 +25,7 @@ use Rattle.rgo_command_line.specs.Commands.{command_of}
 use Rattle.rgo_run.specs.declared.endings.TextKind.{TextKind}
 use Rattle.rgo_run.specs.declared.endings.Ending.{Ending}
 use Rattle.rgo_run.specs.declared.endings.Ending.TheVariants.{Valid, Ran, Usage, ReadFault, WriteFault, NoMemory}
-use Rattle.rgo_run.specs.Calls.{AsksRun, Call, AsksForCommand, IsRunCall, IsCheck, IsEmit, IsCode, SourceFailed, SourceHeld, Failed, SinkHeld, SinkGrew, IsUntouched}
+use Rattle.rgo_run.specs.Calls.{AsksRun, Call, AsksForCommand, IsRunCall, AsksCheck, AsksEmit, AsksCode, SourceFailed, SourceHadNoFault, Failed, SinkHadNoFault, SinkGrew, IsUntouched}
 use Rattle.rgo_run.specs.Compiled.{Emits, IsCodeText}
 use Rattle.rgo_run.specs.Endings.{status_of, status_of_run, line_of, is_fault_status}
 use Rattle.rgo_run.specs.Reports.{ReportsEnding}
@@ -52,9 +52,10 @@ EndsEmit _ = ⊥
 
 -- `out` may have a code text only if the call asks for it and has this ending
 abbrev pub MayEmit : Call → Ending → Type 0
-MayEmit call ending = IsEmit call × EndsEmit ending
+MayEmit call ending = AsksEmit call × EndsEmit ending
 
--- An invalid program is rejected at the first place that breaks a rule, and `out` stays as it was.
+-- What a refusal means, and which texts must and must not have one; also, when `out` stays as it was. Words that name no command
+-- get the usage line, and a text that breaks a rule is rejected at the first place that does.
 pub record Refusal (call : Call) (text : List ℕ) (ending : Ending) : Type 0 where
   -- the usage line is written only for words that name no command
   pub usage : ending ≡ Usage → command_of call.words ≡ None
@@ -83,7 +84,7 @@ Print call text ending =
 
 -- The bytes on `out` are the text of the program's code with regions, or a front part of it if a write failed.
 abbrev pub Emission : Call → List ℕ → Ending → Type 0
-Emission call text ending = IsEmit call → EndsEmit ending → Emits text ending call.out
+Emission call text ending = AsksEmit call → EndsEmit ending → Emits text ending call.out
 
 -- a write to `out` failed
 abbrev pub IsWriteFault : Ending → Type 0
@@ -91,7 +92,7 @@ IsWriteFault ending =
     ((kind : TextKind) × (stats : Option Tally) × (ending ≡ Ran kind run_end.WriteFault stats)) ⊎ (ending ≡ WriteFault)
 
 -- The ending has its cause. `err` took its lines and the status is its own, or a write to `err` failed and the status is 10.
-pub record End (call : Call) (text : List ℕ) (ending : Ending) : Type 0 where
+pub record ReportedEnd (call : Call) (text : List ℕ) (ending : Ending) : Type 0 where
   pub read_failed : ending ≡ ReadFault → SourceFailed call.source
   pub write_failed : IsWriteFault ending → Failed call.out
   pub ran : (kind : TextKind) (end : RunEnd) (stats : Option Tally) → ending ≡ Ran kind end stats
@@ -102,7 +103,7 @@ pub record End (call : Call) (text : List ℕ) (ending : Ending) : Type 0 where
 pub record Faults (call : Call) : Type 0 where
   pub read : call.status ≡ 9 → SourceFailed call.source
   pub write : call.status ≡ 10 → Failed call.out ⊎ Failed call.err
-  pub none : is_fault_status call.status ≡ false → SourceHeld call.source × SinkHeld call.out × SinkHeld call.err
+  pub none : is_fault_status call.status ≡ false → SourceHadNoFault call.source × SinkHadNoFault call.out × SinkHadNoFault call.err
 
 -- no run of its code within the limits has this end
 abbrev pub NeverEnds : Limits → Runnable → RunEnd → Type 0
@@ -117,7 +118,8 @@ AlwaysHas sizes what why =
     (code : Code) → IsCodeFor what code → (events : List Event) (s : RegionState)
     → region_run code sizes.page_words events ≡ Some s → LacksIn code sizes why s → ⊥
 
--- no run of its code reaches a limit or lacks room
+-- No run of its code reaches a limit or lacks room. Memory is not mentioned: no option bounds what the process may allocate, so a call
+-- may always end with 11.
 pub record Suffices (options : RunOptions) (what : Runnable) : Type 0 where
   pub calls : NeverEnds options.limits what run_end.CallsTooDeep
   pub steps : NeverEnds options.limits what run_end.StepsSpent
@@ -134,13 +136,13 @@ IsOwnEnd _ = ⊥
 
 -- `out` has the whole print of a run to its own end, `err` has its lines, and the status is 0, 2 or 3
 pub record RunsWhole (kind : TextKind) (options : RunOptions) (call : Call) (text : List ℕ) (what : Runnable) : Type 0 where
-  pub run_end : RunEnd
-  pub is_own : IsOwnEnd run_end
-  pub runs : RunOf what options run_end call.out
+  pub end : RunEnd
+  pub is_own : IsOwnEnd end
+  pub runs : RunOf what options end call.out
   pub stats : Option Tally
-  pub said : IsSaid options.stats run_end (counts_of runs.regions.last) stats
-  pub told : SinkGrew call.err (line_of text (Ran kind run_end stats))
-  pub status : call.status ≡ status_of_run run_end
+  pub said : IsSaid options.stats end (counts_of runs.regions.last) stats
+  pub told : SinkGrew call.err (line_of text (Ran kind end stats))
+  pub status : call.status ≡ status_of_run end
 
 -- if no run of the text's program or code reaches a limit, it is run to its own end, unless memory runs out
 abbrev pub MustRunWhole : TextKind → RunOptions → Call → List ℕ → Type 0
@@ -160,7 +162,7 @@ pub record EmitsWhole (call : Call) (text : List ℕ) : Type 0 where
   pub bytes : List ℕ
   pub is_text : IsCodeText text bytes
   pub grew : SinkGrew call.out bytes
-  pub held : SinkHeld call.out
+  pub held : SinkHadNoFault call.out
   pub silent : SinkGrew call.err []
 
 -- If nothing fails and memory suffices: a valid program, or the code of a code text that keeps all rules, is run to its own end if
@@ -170,11 +172,11 @@ pub record Complete (call : Call) (text : List ℕ) : Type 0 where
   pub run : (kind : TextKind) (options : RunOptions) → IsRunCall call kind options
       → (SourceFailed call.source → ⊥) → (Failed call.out → ⊥) → (Failed call.err → ⊥)
       → MustRunWhole kind options call text
-  pub check : IsCheck call → (SourceFailed call.source → ⊥) → (Failed call.err → ⊥)
+  pub check : AsksCheck call → (SourceFailed call.source → ⊥) → (Failed call.err → ⊥)
       → IsValidProgram text → IsSilent call ⊎ (call.status ≡ 11)
-  pub emit : IsEmit call → (SourceFailed call.source → ⊥) → (Failed call.out → ⊥) → (Failed call.err → ⊥)
+  pub emit : AsksEmit call → (SourceFailed call.source → ⊥) → (Failed call.out → ⊥) → (Failed call.err → ⊥)
       → IsValidProgram text → EmitsWhole call text ⊎ (call.status ≡ 11)
-  pub code : IsCode call → (SourceFailed call.source → ⊥) → (Failed call.err → ⊥)
+  pub code : AsksCode call → (SourceFailed call.source → ⊥) → (Failed call.err → ⊥)
       → CodePasses text → IsSilent call ⊎ (call.status ≡ 11)
 
 -- The claim on a call: for one text, all of the above holds. The text is the large one for `big`, and otherwise one that agrees
@@ -186,6 +188,6 @@ pub record Headline (call : Call) : Type 0 where
   pub refusal : Refusal call text ending
   pub print : Print call text ending
   pub emission : Emission call text ending
-  pub end : End call text ending
+  pub end : ReportedEnd call text ending
   pub faults : Faults call
   pub complete : Complete call text

@@ -4,6 +4,7 @@ use Rattle.std.specs.List.{suffix_len, slice_get}
 use Rattle.rgo_lexer.specs.Lexemes.{Lexeme}
 use Rattle.rgo_run.specs.declared.positions.Position.{Position}
 
+-- any byte but a newline; a tab or a carriage return takes one column, as does each byte of a longer character
 abbrev pub is_in_line : ℕ → Bool
 is_in_line b = not (b == 10)
 

@@ -26,7 +26,7 @@ pub record ReplaysCall (recorded replayed : Call) : Type 0 where
   pub replays : SinkGrew replayed.out bytes
   pub answers : AnswersAs recorded.status replayed.status
 
--- no read or write failed, and memory sufficed
+-- no read or write failed, and memory sufficed; otherwise a replay may stop anywhere
 abbrev pub IsUnhindered : ℕ → Type 0
 IsUnhindered status = (status ≡ 9 → ⊥) × (status ≡ 10 → ⊥) × (status ≡ 11 → ⊥)
 

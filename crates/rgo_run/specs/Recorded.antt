@@ -16,13 +16,13 @@ use Rattle.rgo_command_line.specs.declared.limits.RunOptions.{RunOptions}
 use Rattle.rgo_run.specs.declared.endings.Ending.{Ending}
 use Rattle.rgo_run.specs.declared.endings.Ending.TheVariants.{Ran, NoMemory}
 use Rattle.rgo_run.specs.declared.endings.TextKind.TheVariants as text_kind
-use Rattle.rgo_run.specs.Calls.{Call, SinkUse, Failed, SinkHeld, SinkGrew, IsUntouched}
+use Rattle.rgo_run.specs.Calls.{Call, SinkUse, Failed, SinkHadNoFault, SinkGrew, IsUntouched}
 use Rattle.rgo_run.specs.Headline.{Headline}
 use Rattle.rgo_run.specs.Reports.{Reports}
 use Rattle.rgo_run.specs.Runs.{TextRunsTo}
 use Rattle.rgo_run.specs.Texts.{FailsAs, IsTextOf}
 
--- a sink's use after it has taken these bytes
+-- a sink's use with these bytes counted as held before: what is said of it then is about the bytes that followed
 abbrev pub rest : List ℕ → SinkUse → SinkUse
 rest said sink = record sink { old = append_known sink.old said }
 
@@ -62,7 +62,7 @@ KeepsJournal options text ending bytes out =
 
 -- these bytes were written, or the write failed
 abbrev pub WritesJournal : Bool → (bytes : List ℕ) → SinkUse → Type 0
-WritesJournal true bytes err = SinkGrew err bytes × SinkHeld err
+WritesJournal true bytes err = SinkGrew err bytes × SinkHadNoFault err
 WritesJournal false bytes err = Failed err × (n : ℕ) × SinkGrew err (take n bytes)
 
 -- these bytes were written, and then the line of the ending; or writing the bytes failed, and the status is 10

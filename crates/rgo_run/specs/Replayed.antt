@@ -20,17 +20,18 @@ use Rattle.rgo_run.specs.declared.refusals.CodeTextRefusal.TheVariants as code_r
 use Rattle.rgo_run.specs.declared.endings.TextKind.TheVariants as text_kind
 use Rattle.rgo_run.specs.declared.replaying.ReplayEnding.{ReplayEnding}
 use Rattle.rgo_run.specs.declared.replaying.ReplayEnding.TheVariants.{NoJournal, Replayed, Other}
-use Rattle.rgo_run.specs.Calls.{AsksForCommand, Call, SinkUse, SourceFailed, SourceHeld, Failed, SinkHeld, IsUntouched}
+use Rattle.rgo_run.specs.Calls.{AsksForCommand, Call, SinkUse, SourceFailed, SourceHadNoFault, Failed, SinkHadNoFault, IsUntouched}
 use Rattle.rgo_run.specs.CodeVerdicts.{code_limit}
 use Rattle.rgo_run.specs.Endings.{line_of, line_of_run, numbered_line, status_of, status_of_run}
 use Rattle.rgo_run.specs.Headline.{Faults, Headline}
 use Rattle.rgo_run.specs.Recorded.{RecordHeadline}
-use Rattle.rgo_run.specs.Reports.{HasPlace, WritesLine}
+use Rattle.rgo_run.specs.Reports.{LineHasNumber, WritesLine}
 use Rattle.rgo_run.specs.Runs.{IsCodeOf}
 use Rattle.rgo_run.specs.Verdicts.{Refused}
 
 -- ---- the status of each ending, and its line on `err`
 
+-- An end that runs have, too, has the same status as there. It is 13 if the picks ended before the run, and 1 if a pick had no step.
 abbrev pub status_of_end : ReplayEnd → ℕ
 status_of_end (replay_end.Ended end) = status_of_run (run_end.Ended end)
 status_of_end replay_end.Deadlock = status_of_run run_end.Deadlock
@@ -39,6 +40,7 @@ status_of_end (replay_end.Foreign index) = 1
 status_of_end replay_end.WriteFault = status_of_run run_end.WriteFault
 status_of_end replay_end.NoMemory = status_of_run run_end.NoMemory
 
+-- a malformed line of the journal has the status of a rejected text
 abbrev pub status_of_replay : ReplayEnding → ℕ
 status_of_replay (NoJournal line) = 1
 status_of_replay (Replayed end) = status_of_end end
@@ -54,24 +56,25 @@ line_of_end text (replay_end.Foreign index) = numbered_line (index + 2) (codes "
 line_of_end text replay_end.WriteFault = line_of_run text_kind.Go text run_end.WriteFault
 line_of_end text replay_end.NoMemory = line_of_run text_kind.Go text run_end.NoMemory
 
+-- the number of a malformed line counts the lines of the journal, from 1
 abbrev pub line_of_replay : List ℕ → ReplayEnding → List ℕ
 line_of_replay text (NoJournal line) = numbered_line line (codes "picks text\n")
 line_of_replay text (Replayed end) = line_of_end text end
 line_of_replay text (Other ending) = line_of text ending
 
 -- an ending whose line contains numbers, so that it needs memory
-abbrev pub HasNumber : ReplayEnding → Type 0
-HasNumber (NoJournal line) = Unit {0}
-HasNumber (Replayed (replay_end.Ended (the_end.Trap trap at))) = Unit {0}
-HasNumber (Replayed (replay_end.Foreign index)) = Unit {0}
-HasNumber (Replayed _) = ⊥
-HasNumber (Other ending) = HasPlace ending
+abbrev pub ReplayLineHasNumber : ReplayEnding → Type 0
+ReplayLineHasNumber (NoJournal line) = Unit {0}
+ReplayLineHasNumber (Replayed (replay_end.Ended (the_end.Trap trap at))) = Unit {0}
+ReplayLineHasNumber (Replayed (replay_end.Foreign index)) = Unit {0}
+ReplayLineHasNumber (Replayed _) = ⊥
+ReplayLineHasNumber (Other ending) = LineHasNumber ending
 
 -- the line of the ending was written, or on allocation failure for it, that memory ran out
 abbrev pub ReportsReplay : List ℕ → ReplayEnding → ℕ → SinkUse → Type 0
 ReportsReplay text ending answer err =
     WritesLine (line_of_replay text ending) (status_of_replay ending) answer err
-    ⊎ (HasNumber ending × WritesLine (line_of [] the_ending.NoMemory) 11 answer err)
+    ⊎ (ReplayLineHasNumber ending × WritesLine (line_of [] the_ending.NoMemory) 11 answer err)
 
 -- ---- what each ending implies
 
@@ -87,7 +90,7 @@ pub record ReplaysTo (picks : List TacPick) (text : List ℕ) (end : ReplayEnd) 
   pub is_code : IsCodeOf text code
   pub replays : Replays code picks end out.old out.new
   pub failed : end ≡ replay_end.WriteFault → Failed out
-  pub held : (end ≡ replay_end.WriteFault → ⊥) → SinkHeld out
+  pub held : (end ≡ replay_end.WriteFault → ⊥) → SinkHadNoFault out
 
 abbrev pub error_of : PicksError → ReplayEnding
 error_of (picks_error.Refused refusal) = NoJournal refusal.line
@@ -119,14 +122,14 @@ pub record ReplaysBytes (bytes : List ℕ) (out err : SinkUse) (status : ℕ) : 
 pub record IsReadWhole (call : Call) (bytes : List ℕ) : Type 0 where
   pub is_left : IfSome call.source.left (λ left. bytes ≡ left)
   pub within : length bytes ≤ code_limit
-  pub held : SourceHeld call.source
+  pub held : SourceHadNoFault call.source
 
 -- the ending if no bytes were read, by its reason
 abbrev pub ReadsNothing : Call → (bytes : List ℕ) → ReplayEnding → Type 0
 ReadsNothing call bytes (Other the_ending.ReadFault) = SourceFailed call.source
 ReadsNothing call bytes (Other (the_ending.CodeRefused code_refusal.TooLong)) =
-    IfSome call.source.left (λ left. bytes ≡ left) × (code_limit < length bytes) × SourceHeld call.source
-ReadsNothing call bytes (Other the_ending.NoMemory) = SourceHeld call.source
+    IfSome call.source.left (λ left. bytes ≡ left) × (code_limit < length bytes) × SourceHadNoFault call.source
+ReadsNothing call bytes (Other the_ending.NoMemory) = SourceHadNoFault call.source
 ReadsNothing call bytes _ = ⊥
 
 -- Some bytes that agree with what the source reports were replayed or rejected, or nothing was read; the ending is reported.

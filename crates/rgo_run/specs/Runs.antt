@@ -27,7 +27,7 @@ use Rattle.rgo_run.specs.declared.endings.TextKind.{TextKind}
 use Rattle.rgo_run.specs.declared.endings.TextKind.TheVariants as text_kind
 use Rattle.rgo_run.specs.declared.endings.Ending.{Ending}
 use Rattle.rgo_run.specs.declared.endings.Ending.TheVariants.{Ran}
-use Rattle.rgo_run.specs.Calls.{SinkUse, Failed, SinkHeld}
+use Rattle.rgo_run.specs.Calls.{SinkUse, Failed, SinkHadNoFault}
 use Rattle.rgo_run.specs.CodeVerdicts.{IsTextOfCode}
 use Rattle.rgo_run.specs.Compiled.{IsCompiledFrom}
 use Rattle.rgo_run.specs.Verdicts.{IsTypedProgram}
@@ -116,7 +116,7 @@ pub record TextRunsTo (kind : TextKind) (options : RunOptions) (text : List ℕ)
   pub runs : RunOf what options run_end out
   pub said : IsSaid options.stats run_end (counts_of runs.regions.last) stats
   pub failed : run_end ≡ WriteFault → Failed out
-  pub held : (run_end ≡ WriteFault → ⊥) → SinkHeld out
+  pub held : (run_end ≡ WriteFault → ⊥) → SinkHadNoFault out
 
 -- the same for a run on workers over the words of one table: it is one run, with regions and without them
 abbrev pub RunsAsOne : TextKind → RunOptions → (text : List ℕ) → Ending → SinkUse → Type 0

@@ -11,7 +11,8 @@ use Rattle.rgo_sound.specs.Safety.{most_names}
 use Rattle.rgo_run.specs.Headline.{AlwaysHas}
 use Rattle.rgo_run.specs.Runs.{IsCodeFor, Runnable}
 
--- the property holds in every state of every run of its code with regions
+-- The property holds in every state of every run of its code with regions: the premise is about all of them, since nothing says which
+-- run a call will take.
 abbrev pub Always : Sizes → Runnable → (Code → RegionState → Type 0) → Type 0
 Always sizes what Holds =
     (code : Code) (events : List Event) (s : RegionState) → IsCodeFor what code

@@ -16,7 +16,7 @@ use Rattle.rgo_run.specs.declared.refusals.CodeTextRefusal.TheVariants as code_r
 use Rattle.rgo_run.specs.declared.refusals.TextError.{TextError}
 use Rattle.rgo_run.specs.declared.refusals.TextError.TheVariants as error
 use Rattle.rgo_run.specs.declared.refusals.TextRefusal.TheVariants as refusal
-use Rattle.rgo_run.specs.Calls.{SourceUse, SourceFailed, SourceHeld, SinkUse, IsUntouched, text_kind_of}
+use Rattle.rgo_run.specs.Calls.{SourceUse, SourceFailed, SourceHadNoFault, SinkUse, IsUntouched, text_kind_of}
 use Rattle.rgo_run.specs.CodeVerdicts.{CodePasses, CodeRefused, code_limit}
 use Rattle.rgo_run.specs.Compiled.{Emits}
 use Rattle.rgo_run.specs.Runs.{RunsAsOne}
@@ -37,7 +37,7 @@ pub record IsTextRead (words : List (List ℕ)) (source : SourceUse) (command : 
   pub asked : command_of words ≡ Some command
   pub is_text : IsTextOf (Some command) source.left text
   pub within : length text ≤ byte_limit (text_kind_of command)
-  pub held : SourceHeld source
+  pub held : SourceHadNoFault source
 
 -- the words name a command
 abbrev pub AskSome : List (List ℕ) → Type 0
@@ -69,19 +69,19 @@ AcceptedBy _ text = ⊥
 pub record ReadTooMuch (words : List (List ℕ)) (source : SourceUse) (ending : Ending) : Type 0 where
   pub command : Command
   pub asked : command_of words ≡ Some command
-  pub held : SourceHeld source
+  pub held : SourceHadNoFault source
   pub text : List ℕ
   pub is_text : IsTextOf (Some command) source.left text
   pub refused : RefusedBy command text ending
 
 -- the ending if no text was read, by its reason
 abbrev pub NotRead : List (List ℕ) → SourceUse → Ending → Type 0
-NotRead words source the_ending.Usage = (command_of words ≡ None) × SourceHeld source
+NotRead words source the_ending.Usage = (command_of words ≡ None) × SourceHadNoFault source
 NotRead words source the_ending.ReadFault = AskSome words × SourceFailed source
 NotRead words source (the_ending.Refused refusal.TooLong) = ReadTooMuch words source (the_ending.Refused refusal.TooLong)
 NotRead words source (the_ending.CodeRefused code_refusal.TooLong) =
     ReadTooMuch words source (the_ending.CodeRefused code_refusal.TooLong)
-NotRead words source the_ending.NoMemory = SourceHeld source
+NotRead words source the_ending.NoMemory = SourceHadNoFault source
 NotRead words source _ = ⊥
 
 -- why a text has no program: its refusal, or memory ran out

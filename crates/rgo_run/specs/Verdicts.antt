@@ -65,7 +65,8 @@ Refused text (Syntax at) = (k : ℕ) × IsRefused text (parse.Syntax k) k at
 Refused text (Nesting at) = (k : ℕ) × IsRefused text (parse.TooDeep k) k at
 Refused text (Typing refusal) = IsMistyped text refusal
 
--- Each text is at most one program, and is valid or has one refusal, never both.
+-- Each text is at most one program, and is valid or has one refusal, never both. So the definitions leave a compiler no choice of what
+-- it accepts, or of what it reports.
 pub record OneVerdict : Type 0 where
   pub one_program : (text : List ℕ) (p q : Typed) → IsTypedProgram text p → IsTypedProgram text q → p ≡ q
   pub one_refusal : (text : List ℕ) (a b : TextRefusal) → Refused text a → Refused text b → a ≡ b

@@ -41,6 +41,7 @@ pub(crate) fn kind_of(command: Command) -> TextKind
     }
 }
 
+// `check` ends with the types: a text that has passed them always has code, so compiling it would find nothing more.
 fn check_only(alloc: Global, text: &[u8]) -> Ending
     ensures { ChecksText text_kind.Go text.now result }
 {
@@ -96,6 +97,7 @@ fn run_code<H: Threads + Sync, K: Sink, G: Gate + Sync>(
     }
 }
 
+// The whole text is accepted before the first step, so a rejected text has printed nothing.
 fn run_text<H: Threads + Sync, K: Sink, G: Gate + Sync>(
     rt: &H,
     alloc: Global,
@@ -114,6 +116,7 @@ fn run_text<H: Threads + Sync, K: Sink, G: Gate + Sync>(
     }
 }
 
+// Code of any origin is checked first: that no step touches a removed region is proved only of code that keeps the rules.
 fn run_code_text<H: Threads + Sync, K: Sink, G: Gate + Sync>(
     rt: &H,
     alloc: Global,
@@ -132,6 +135,7 @@ fn run_code_text<H: Threads + Sync, K: Sink, G: Gate + Sync>(
     }
 }
 
+// One write for the whole text, so `out` has a part of it only after a failed write, which the status reports.
 fn write_code<K: Sink>(out: &mut K, bytes: &[u8]) -> Ending
     ensures { WritesCode bytes.now result (use_of K.Sink out.old out.new) }
 {
@@ -176,6 +180,7 @@ fn emit_text<K: Sink>(alloc: Global, text: &[u8], out: &mut K) -> Ending
     }
 }
 
+// The same check as before a run, without the run: what `code` accepts, `runcode` starts.
 fn check_code_text(alloc: Global, text: &[u8]) -> Ending
     ensures { ChecksText text_kind.Code text.now result }
 {

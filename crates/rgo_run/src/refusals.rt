@@ -22,7 +22,7 @@ pub enum TextRefusal {
     TooLong,
     /// It cannot be cut into tokens: the first lexical error and its place.
     Lexical(LexRefusal),
-    /// The place of the first token that cannot continue any valid program.
+    /// The place of the first token with which no program of the grammar can continue.
     Syntax { at: Place },
     /// The place of the first token at which the nesting exceeds the limit.
     Nesting { at: Place },

@@ -7,7 +7,7 @@ ghost use Rattle.std.specs.Prelude.{◌≡◌, ◌<◌, ◌^◌, ◌++◌, [], �
 ghost use Rattle.rgo_run.specs.Calls.{use_of};
 ghost use Rattle.rgo_run.specs.Endings.{line_of, line_of_code_refusal, line_of_refusal, line_of_run, lines_of_run, kind_line, numbered_line};
 ghost use Rattle.rgo_run.specs.Endings.{others_made, placed_message, positioned, regions_made, stats_lines, status_of, status_of_run};
-ghost use Rattle.rgo_run.specs.Reports.{HasPlace, IsTrap, Reports, ReportsEnding, WritesLine, in_short};
+ghost use Rattle.rgo_run.specs.Reports.{LineHasNumber, IsTrap, Reports, ReportsEnding, WritesLine, in_short};
 ghost use Rattle.rgo_machine.specs.declared.ends.RunEnd.TheVariants.{Ended};
 ghost use Rattle.rgo_machine.specs.declared.picks.End.TheVariants as the_end;
 ghost use Rattle.rgo_run.specs.declared.endings.TextKind as kinds;
@@ -111,7 +111,7 @@ fn broken_line(alloc: Global, refusal: CodeRefusal) -> Result<String, AllocError
 // The line of a rejected text.
 fn refusal_line(alloc: Global, text: &[u8], refusal: TextRefusal) -> Result<String, AllocError>
     requires short { length text.now < 2 ^ 63 }
-    requires has_place { refusal ≡ refusals.TooLong → ⊥ }
+    requires has_number { refusal ≡ refusals.TooLong → ⊥ }
     ensures { IfOk result (λ line. string_bytes line ≡ line_of_refusal text.now refusal) }
 {
     match refusal {
@@ -207,7 +207,7 @@ fn status_of(ending: Ending) -> u8
 /// The line of a call's ending; `None` if it contains numbers.
 fn fixed_line(ending: Ending) -> Option<&'static str>
     ensures line { (text : List ℕ) → IfSome result (λ line. line.now ≡ line_of text ending) }
-    ensures none { result ≡ None → HasPlace ending }
+    ensures none { result ≡ None → LineHasNumber ending }
 {
     match ending {
         Ending::Valid => Some(""),
@@ -307,7 +307,7 @@ fn lines_of_run(
 /// endings have a fixed line, so the last arm cannot be reached.
 fn numbered_lines(alloc: Global, text: &[u8], ending: Ending) -> Result<String, AllocError>
     requires short { length text.now < 2 ^ 63 }
-    requires has_place { HasPlace ending }
+    requires has_number { LineHasNumber ending }
     ensures { IfOk result (λ lines. string_bytes lines ≡ line_of text.now ending) }
 {
     match ending {
@@ -341,7 +341,7 @@ fn in_short(ending: Ending) -> Ending
 /// Writes the line of an ending whose line contains no numbers. It cannot fail for want of memory, so the last resort of a report
 /// is always one of these.
 fn tell<E: Sink>(ending: Ending, err: &mut E) -> u8
-    requires { HasPlace ending → ⊥ }
+    requires { LineHasNumber ending → ⊥ }
     ensures { (text : List ℕ) → ReportsEnding text ending result (use_of E.Sink err.old err.new) }
 {
     let Some(line) = fixed_line(ending) else {
