@@ -34,7 +34,7 @@ pub fn is_read<R: Abort + AllocGlobal>(rt: &R, text: &str) -> Result<(), Fail> {
 }
 
 /// The text is rejected at this line.
-pub fn is_refused<R: Abort + AllocGlobal>(rt: &R, text: &str, line: u32) -> Result<(), Fail> {
+pub fn is_refused<R: Abort + AllocGlobal>(rt: &R, text: &str, line: usize) -> Result<(), Fail> {
     let again = shown(rt.alloc(), text.as_bytes())?;
     let wanted = format!(in rt.alloc(); "{line}")?;
     assert_eq!(rt; again.as_str(), wanted.as_str(), "{text}");

@@ -3,48 +3,49 @@
 use crate::checks::{is_refused, with_line};
 use std::test::Fail;
 
-const TEXTS: [(&str, u32); 33] = [
-    ("", 1),
-    ("\n", 1),
-    ("rgo code 1", 1),
-    ("rgo code 2\n", 1),
-    ("rgo code 1\nx", 2),
-    ("rgo code 1\n\n", 2),
-    ("rgo code 1\r\n", 1),
-    ("rgo code 1\nrgo code 1\n", 2),
-    ("rgo code 1\nend\n", 2),
-    ("rgo code 1\nglobal x int\nstruct E\n", 3),
-    ("rgo code 1\nstruct E \n", 2),
-    ("rgo code 1\nstruct  E\n", 2),
-    ("rgo code 1\nstruct for\n", 2),
-    ("rgo code 1\nstruct 1a\n", 2),
-    ("rgo code 1\nstruct E E\n", 2),
-    ("rgo code 1\nstruct E *\n", 2),
-    ("rgo code 1\nstruct E *chan\n", 2),
-    ("rgo code 1\nstruct E chan int\n", 2),
-    ("rgo code 1\nglobal x\n", 2),
-    ("rgo code 1\nglobal x int int\n", 2),
-    ("rgo code 1\nfunc f 00 - -\n", 2),
-    ("rgo code 1\nfunc f 4294967296 - -\n", 2),
-    ("rgo code 1\nfunc f 0 - r0\n", 2),
-    ("rgo code 1\nfunc f 0 - G\n", 2),
-    ("rgo code 1\nfunc f 0 - -", 2),
-    ("rgo code 1\nfunc f 0 - -\n", 3),
-    ("rgo code 1\nfunc f 0 - -\nend\n", 3),
-    ("rgo code 1\nfunc f 0 - -\nvar int g\n", 3),
-    ("rgo code 1\nfunc f 0 - -\nentry -[]\n", 4),
-    ("rgo code 1\nfunc f 0 - -\nentry -[]\nvar int -\n", 4),
+/// Texts in two pieces, the second from the line on that is refused.
+const TEXTS: [(&str, &str); 33] = [
+    ("", ""),
+    ("", "\n"),
+    ("", "rgo code 1"),
+    ("", "rgo code 2\n"),
+    ("rgo code 1\n", "x"),
+    ("rgo code 1\n", "\n"),
+    ("", "rgo code 1\r\n"),
+    ("rgo code 1\n", "rgo code 1\n"),
+    ("rgo code 1\n", "end\n"),
+    ("rgo code 1\nglobal x int\n", "struct E\n"),
+    ("rgo code 1\n", "struct E \n"),
+    ("rgo code 1\n", "struct  E\n"),
+    ("rgo code 1\n", "struct for\n"),
+    ("rgo code 1\n", "struct 1a\n"),
+    ("rgo code 1\n", "struct E E\n"),
+    ("rgo code 1\n", "struct E *\n"),
+    ("rgo code 1\n", "struct E *chan\n"),
+    ("rgo code 1\n", "struct E chan int\n"),
+    ("rgo code 1\n", "global x\n"),
+    ("rgo code 1\n", "global x int int\n"),
+    ("rgo code 1\n", "func f 00 - -\n"),
+    ("rgo code 1\n", "func f 4294967296 - -\n"),
+    ("rgo code 1\n", "func f 0 - r0\n"),
+    ("rgo code 1\n", "func f 0 - G\n"),
+    ("rgo code 1\n", "func f 0 - -"),
+    ("rgo code 1\nfunc f 0 - -\n", ""),
+    ("rgo code 1\nfunc f 0 - -\n", "end\n"),
+    ("rgo code 1\nfunc f 0 - -\n", "var int g\n"),
+    ("rgo code 1\nfunc f 0 - -\nentry -[]\n", ""),
+    ("rgo code 1\nfunc f 0 - -\nentry -[]\n", "var int -\n"),
     (
-        "rgo code 1\nfunc f 0 - -\nentry -[]\n1 @0 +[] return -\n",
-        4,
+        "rgo code 1\nfunc f 0 - -\nentry -[]\n",
+        "1 @0 +[] return -\n",
     ),
     (
-        "rgo code 1\nfunc f 0 - -\nentry -[]\n0 @0 +[] return -\n0 @0 +[] return -\n",
-        5,
+        "rgo code 1\nfunc f 0 - -\nentry -[]\n0 @0 +[] return -\n",
+        "0 @0 +[] return -\n",
     ),
     (
-        "rgo code 1\nfunc f 0 - -\nentry -[]\nend\nglobal x int\n",
-        5,
+        "rgo code 1\nfunc f 0 - -\nentry -[]\nend\n",
+        "global x int\n",
     ),
 ];
 
@@ -102,8 +103,10 @@ const LINES: [&str; 48] = [
 
 #[test]
 fn texts_are_refused(rt: HostRuntime) -> Result<(), Fail> {
-    for row in TEXTS.iter() {
-        is_refused(&rt, row.0, row.1)?;
+    for (before, from) in TEXTS.iter() {
+        let text = format!(in rt.alloc(); "{before}{from}")?;
+        let line = before.lines().count().saturating_add(1);
+        is_refused(&rt, text.as_str(), line)?;
     }
     Ok(())
 }

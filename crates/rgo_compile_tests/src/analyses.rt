@@ -30,7 +30,7 @@ pub(crate) static LIVE: [(&str, &str); 9] = [
         "func main() { x := 1; x = x; fmt.Println(x) }\n",
         "|v0 |v1 |v1 ||\n",
     ),
-    // behind a return
+    // after a return
     (
         "func main() { x := 1; return; fmt.Println(x) }\n",
         "|v0 ||v1 ||\n",

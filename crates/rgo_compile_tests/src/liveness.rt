@@ -54,7 +54,7 @@ fn is_live_there<R: Abort>(rt: &R, table: &Liveness, point: u32, variable: u32, 
     same(rt, "a point", &table.is_live(point, variable), &wanted);
 }
 
-/// The function has the instructions 0 to 4 and the variables 0 and 1, and prints the latter at 2 for ever.
+/// The function has the instructions 0 to 4 and the variables 0 and 1, and prints the latter at 2 forever.
 #[test]
 fn nothing_is_live_outside(rt: HostRuntime) -> Result<(), Fail> {
     let code = code_of(&rt, LOOP)?;

@@ -1,7 +1,7 @@
 //! How runs end.
 
 use crate::driver::{Course, ROOMY, Room, drive};
-use rgo_crew::over::Ending;
+use rgo_crew::over::CrewEnd;
 use rgo_machine::Shortage;
 use rgo_memory::Trap;
 use rgo_region_machine::Limit;
@@ -226,7 +226,7 @@ const TIGHT: Room = Room {
 struct Row {
     text: &'static str,
     room: Room,
-    ending: Ending,
+    ending: CrewEnd,
     printed: &'static str,
 }
 
@@ -234,79 +234,79 @@ static ROWS: [Row; 13] = [
     Row {
         text: NIL,
         room: ROOMY,
-        ending: Ending::Trap(Trap::NilPointer),
+        ending: CrewEnd::Trap(Trap::NilPointer),
         printed: "1\n",
     },
     Row {
         text: INDEX,
         room: ROOMY,
-        ending: Ending::Trap(Trap::IndexRange),
+        ending: CrewEnd::Trap(Trap::IndexRange),
         printed: "3\n",
     },
     Row {
         text: DIVISION,
         room: ROOMY,
-        ending: Ending::Trap(Trap::DivideZero),
+        ending: CrewEnd::Trap(Trap::DivideZero),
         printed: "",
     },
     Row {
         text: SIZE,
         room: ROOMY,
-        ending: Ending::Trap(Trap::BadSize),
+        ending: CrewEnd::Trap(Trap::BadSize),
         printed: "",
     },
     Row {
         text: SEND,
         room: ROOMY,
-        ending: Ending::Trap(Trap::SendClosed),
+        ending: CrewEnd::Trap(Trap::SendClosed),
         printed: "",
     },
     Row {
         text: CLOSE,
         room: ROOMY,
-        ending: Ending::Trap(Trap::CloseClosed),
+        ending: CrewEnd::Trap(Trap::CloseClosed),
         printed: "1\n",
     },
     Row {
         text: CLOSE_NIL,
         room: ROOMY,
-        ending: Ending::Trap(Trap::CloseNil),
+        ending: CrewEnd::Trap(Trap::CloseNil),
         printed: "1\n",
     },
     Row {
         text: DEADLOCK,
         room: ROOMY,
-        ending: Ending::Deadlock,
+        ending: CrewEnd::Deadlock,
         printed: "1\n",
     },
     Row {
         text: NIL_CHANNEL,
         room: ROOMY,
-        ending: Ending::Deadlock,
+        ending: CrewEnd::Deadlock,
         printed: "",
     },
     Row {
         text: MANY,
         room: TIGHT,
-        ending: Ending::Limit(Limit::Goroutines),
+        ending: CrewEnd::Limit(Limit::Goroutines),
         printed: "",
     },
     Row {
         text: LARGE,
         room: ROOMY,
-        ending: Ending::Limit(Limit::ObjectSize),
+        ending: CrewEnd::Limit(Limit::ObjectSize),
         printed: "",
     },
     Row {
         text: LONG,
         room: TIGHT,
-        ending: Ending::Short(Shortage::Pages),
+        ending: CrewEnd::Short(Shortage::Pages),
         printed: "",
     },
     Row {
         text: NESTED,
         room: TIGHT,
-        ending: Ending::Short(Shortage::Regions),
+        ending: CrewEnd::Short(Shortage::Regions),
         printed: "",
     },
 ];
@@ -340,6 +340,6 @@ fn runs_end(rt: HostRuntime) -> Result<(), Fail> {
 #[test]
 fn calls_are_not_too_deep(rt: HostRuntime) -> Result<(), Fail> {
     let over = drive(&rt, DEEP, ROOMY, Course::Rounds(1000))?;
-    assert_eq!(&rt; over.ending, Ending::Limit(Limit::Calls));
+    assert_eq!(&rt; over.ending, CrewEnd::Limit(Limit::Calls));
     Ok(())
 }

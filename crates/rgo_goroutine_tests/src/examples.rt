@@ -13,7 +13,7 @@ mod plain;
 mod regions;
 
 use crate::driver::{Course, ROOMY, Room, drive};
-use rgo_crew::over::{Ending, Over};
+use rgo_crew::over::{CrewEnd, Over};
 use std::alloc::{AllocError, Global};
 use std::process::Abort;
 use std::test::Fail;
@@ -47,12 +47,12 @@ fn row_of(row: &str) -> Option<Row<'_>> {
 }
 
 /// How the tables name an ending.
-fn name_of(ending: Ending) -> &'static str {
+fn name_of(ending: CrewEnd) -> &'static str {
     match ending {
-        Ending::Exit => "exit",
-        Ending::Trap(_) => "trap",
-        Ending::Deadlock => "deadlock",
-        Ending::Unfinished | Ending::Limit(_) | Ending::Short(_) | Ending::NoMemory => {
+        CrewEnd::Exit => "exit",
+        CrewEnd::Trap(_) => "trap",
+        CrewEnd::Deadlock => "deadlock",
+        CrewEnd::Unfinished | CrewEnd::Limit(_) | CrewEnd::Short(_) | CrewEnd::NoMemory => {
             "no end of an example"
         }
     }

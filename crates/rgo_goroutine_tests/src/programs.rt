@@ -1,7 +1,7 @@
 //! Programs, what they print, and what they have made and done. Both were worked out by hand.
 
 use crate::driver::{Course, ROOMY, Tally, drive, made_by};
-use rgo_crew::over::Ending;
+use rgo_crew::over::CrewEnd;
 use std::process::Abort;
 use std::test::Fail;
 use std::thread::Threads;
@@ -404,7 +404,7 @@ fn holds<R: Threads + Abort + AllocGlobal + Sync>(rt: &R, row: &Row) -> Result<(
         let over = drive(rt, row.text, ROOMY, Course::Rounds(slice))?;
         assert_eq!(rt;
             over.ending,
-            Ending::Exit,
+            CrewEnd::Exit,
             "{} in turns of {slice}",
             row.calls
         );

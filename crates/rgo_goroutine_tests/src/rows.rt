@@ -1,7 +1,7 @@
 //! Turns one after another, and why each is over. Goroutines are in the order in which they start, `main` at place 0.
 
 use crate::driver::{Course, ROOMY, Room, Tally, drive, made_by};
-use rgo_crew::over::{Ending, Over, Why};
+use rgo_crew::over::{CrewEnd, Over, Why};
 use rgo_machine::Shortage;
 use rgo_memory::Trap;
 use std::process::Abort;
@@ -198,7 +198,7 @@ fn go<R: Threads + Abort + AllocGlobal + Sync>(
 /// What is lacked in a turn is lacked in the next one, too, while nobody frees it.
 #[test]
 fn pages_and_slots_are_spent(rt: HostRuntime) -> Result<(), Fail> {
-    let pages = Why::Over(Ending::Short(Shortage::Pages));
+    let pages = Why::Over(CrewEnd::Short(Shortage::Pages));
     let over = go(
         &rt,
         PAGES,
@@ -208,7 +208,7 @@ fn pages_and_slots_are_spent(rt: HostRuntime) -> Result<(), Fail> {
         "1\n0 5\n",
     )?;
     assert_eq!(&rt; (made_by(&over).taken, made_by(&over).objects), (2, 2));
-    let slots = Why::Over(Ending::Short(Shortage::Regions));
+    let slots = Why::Over(CrewEnd::Short(Shortage::Regions));
     let over = go(
         &rt,
         SLOTS,
@@ -250,11 +250,11 @@ fn pages_and_slots_come_back(rt: HostRuntime) -> Result<(), Fail> {
             ],
             &[
                 Why::Blocked,
-                Why::Over(Ending::Short(shortage)),
-                Why::Over(Ending::Short(shortage)),
+                Why::Over(CrewEnd::Short(shortage)),
+                Why::Over(CrewEnd::Short(shortage)),
                 Why::Blocked,
                 Why::Ended,
-                Why::Over(Ending::Exit),
+                Why::Over(CrewEnd::Exit),
             ],
             "1\n0\n36\n",
         )?;
@@ -274,7 +274,7 @@ fn pages_and_slots_come_back(rt: HostRuntime) -> Result<(), Fail> {
 /// A goroutine keeps the page that it has for a slice, and continues once others are free.
 #[test]
 fn the_pages_of_a_slice_are_taken_one_by_one(rt: HostRuntime) -> Result<(), Fail> {
-    let short = Why::Over(Ending::Short(Shortage::Pages));
+    let short = Why::Over(CrewEnd::Short(Shortage::Pages));
     let over = go(
         &rt,
         SLICES,
@@ -293,7 +293,7 @@ fn the_pages_of_a_slice_are_taken_one_by_one(rt: HostRuntime) -> Result<(), Fail
             short,
             Why::Blocked,
             Why::Ended,
-            Why::Over(Ending::Exit),
+            Why::Over(CrewEnd::Exit),
         ],
         "1\n3\n47\n",
     )?;
@@ -318,7 +318,7 @@ fn a_turn_that_prints_much_is_over(rt: HostRuntime) -> Result<(), Fail> {
         ROOMY,
         Course::Turns(&[(0, 1_000_000), (0, 1_000_000)]),
     )?;
-    let whys = [Why::Went, Why::Over(Ending::Exit)];
+    let whys = [Why::Went, Why::Over(CrewEnd::Exit)];
     assert_eq!(&rt; over.whys.as_slice(), whys.as_slice());
     assert_eq!(&rt; over.printed(rt.alloc())?.len(), 70_000);
     Ok(())
@@ -347,7 +347,7 @@ fn the_first_end_stands(rt: HostRuntime) -> Result<(), Fail> {
             Why::Went,
             Why::Blocked,
             Why::Went,
-            Why::Over(Ending::Trap(Trap::SendClosed)),
+            Why::Over(CrewEnd::Trap(Trap::SendClosed)),
             Why::Went,
             Why::Went,
         ],
@@ -355,7 +355,7 @@ fn the_first_end_stands(rt: HostRuntime) -> Result<(), Fail> {
     )?;
     assert_eq!(&rt;
         over.enders.as_slice(),
-        [(1, Ending::Trap(Trap::SendClosed))].as_slice()
+        [(1, CrewEnd::Trap(Trap::SendClosed))].as_slice()
     );
     Ok(())
 }

@@ -1,7 +1,7 @@
 //! Goroutines of one table, each in a thread of its own.
 
 use crate::driver::{Course, ROOMY, Room, Tally, drive, made_by};
-use rgo_crew::over::Ending;
+use rgo_crew::over::CrewEnd;
 use std::alloc::{AllocError, Global};
 use std::process::Abort;
 use std::test::Fail;
@@ -120,7 +120,7 @@ fn ends<R: Threads + Abort + AllocGlobal + Sync>(
     };
     let over = drive(rt, text, room, course)?;
     assert_eq!(rt; over.printed(rt.alloc())?.as_slice(), printed.as_bytes());
-    assert_eq!(rt; over.enders.as_slice(), [(0, Ending::Exit)].as_slice());
+    assert_eq!(rt; over.enders.as_slice(), [(0, CrewEnd::Exit)].as_slice());
     assert_eq!(rt; made_by(&over), tally);
     assert_eq!(rt; (over.pages, over.slots), (0, 0));
     Ok(())

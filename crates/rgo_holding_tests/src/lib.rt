@@ -1,4 +1,4 @@
-//! Tests of what a goroutine has of regions. The expected answers were worked out by hand.
+//! Tests of what a goroutine knows about regions. The expected answers were worked out by hand.
 #![tactic(auto)]
 
 #[cfg(test)]

@@ -125,15 +125,15 @@ fn lexemes_have_their_terminals(rt: HostRuntime) -> Result<(), Fail> {
     have_terminals(&rt, &terminals::OTHERS)
 }
 
-static PLACED: &[u8] = b"\xEF\xBB\xBF x\n  main <-\"a\"";
-
-static PLACES: [(usize, &[u8]); 6] = [
-    (4, b"x"),
-    (5, b""),
-    (8, b"main"),
-    (13, b"<-"),
-    (15, b"\"a\""),
-    (18, b""),
+/// The pieces of a text: what separates a lexeme from the one before it, and its bytes. Those of a `;` that is put in at the end of a
+/// line are none.
+static PLACED: [(&[u8], &[u8]); 6] = [
+    (b"\xEF\xBB\xBF ", b"x"),
+    (b"", b""),
+    (b"\n  ", b"main"),
+    (b" ", b"<-"),
+    (b"", b"\"a\""),
+    (b"", b""),
 ];
 
 /// Whether a lexeme is at this place and has these bytes.
@@ -141,13 +141,29 @@ fn is_placed(lexeme: &Lexeme<'_>, at: usize, word: &[u8]) -> bool {
     lexeme.at == at && lexeme.word == word
 }
 
+/// The text of the pieces before the one of this number, with the separator before that.
+fn text_before(alloc: Global, count: usize) -> Result<Vec<u8>, Fail> {
+    let mut text = Vec::new(alloc);
+    for (k, (separator, word)) in PLACED.iter().enumerate() {
+        if k <= count {
+            text.extend_from_slice(separator)?;
+        }
+        if k < count {
+            text.extend_from_slice(word)?;
+        }
+    }
+    Ok(text)
+}
+
 #[test]
 fn lexemes_have_their_places_and_words(rt: HostRuntime) -> Result<(), Fail> {
-    let lexemes = lex(rt.alloc(), PLACED)?;
-    same(&rt, "all", &lexemes.len(), &PLACES.len());
-    for (k, (at, word)) in PLACES.iter().enumerate() {
+    let text = text_before(rt.alloc(), PLACED.len())?;
+    let lexemes = lex(rt.alloc(), &text)?;
+    same(&rt, "all", &lexemes.len(), &PLACED.len());
+    for (k, (_, word)) in PLACED.iter().enumerate() {
+        let at = text_before(rt.alloc(), k)?.len();
         let found = match lexemes.get(k) {
-            Some(lexeme) => is_placed(lexeme, *at, word),
+            Some(lexeme) => is_placed(lexeme, at, word),
             None => false,
         };
         same(&rt, "a lexeme", &found, &true);

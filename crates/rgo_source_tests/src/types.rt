@@ -8,10 +8,11 @@ use std::test::Fail;
 
 #[test]
 fn a_text_without_main_is_refused(rt: HostRuntime) -> Result<(), Fail> {
-    let program = parsed(rt.alloc(), "package main; var x int")?;
+    let text = "package main; var x int";
+    let program = parsed(rt.alloc(), text)?;
     let refusal = TypeRefusal {
         rule: Rule::NoMain,
-        at: 23,
+        at: text.len(),
     };
     let found = check(rt.alloc(), &program).err();
     same(&rt, "no main", &found, &Some(TypeError::Refused(refusal)));
@@ -20,7 +21,8 @@ fn a_text_without_main_is_refused(rt: HostRuntime) -> Result<(), Fail> {
 
 #[test]
 fn main_is_typed(rt: HostRuntime) -> Result<(), Fail> {
-    let program = typed(rt.alloc(), "package main; func main() { }")?;
+    let text = "package main; func main() { }";
+    let program = typed(rt.alloc(), text)?;
     same(&rt, "structs", &program.structs.items().len(), &0);
     same(&rt, "variables", &program.variables.items().len(), &0);
     same(&rt, "functions", &program.functions.len(), &1);
@@ -29,7 +31,8 @@ fn main_is_typed(rt: HostRuntime) -> Result<(), Fail> {
     };
     same(&rt, "name", &main.name.bytes(), &b"main".as_slice());
     same(&rt, "parameters", &main.params, &0);
-    same(&rt, "end", &main.end, &28);
+    // The last byte is the `}` of `main`.
+    same(&rt, "end", &main.end, &text.len().saturating_sub(1));
     same(&rt, "result", &main.result_type.is_none(), &true);
     same(&rt, "body", &main.body.is_empty(), &true);
     Ok(())

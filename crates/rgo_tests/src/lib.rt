@@ -1,7 +1,7 @@
 //! The tests above all other crates: whole calls. Each test calls public functions only, with values that were worked out by
 //! hand or come from another program.
 //!
-//! The crates of tests are several, so that they are proved beside each other.
+//! There are several crates of tests, so that they are proved in parallel.
 #![tactic(auto)]
 
 #[cfg(test)]

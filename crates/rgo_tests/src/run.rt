@@ -61,6 +61,7 @@ fn large_objects_serve_programs(rt: HostRuntime) {
 #[test]
 fn whole_texts_are_refused_or_run(rt: HostRuntime) {
     are_called_with(&rt, refusals::WHOLE);
+    are_called_with(&rt, refusals::CODES);
     are_called_with(&rt, examples::A_TO_M);
     are_called_with(&rt, examples::N_TO_Z);
     are_called_with(&rt, emitting::CHECKED);
@@ -80,6 +81,8 @@ fn nested(alloc: Global, depth: usize) -> Result<String, AllocError> {
     with_head(alloc, &line)
 }
 
+// The place is that of the 199th `(`, 217 bytes after the beginning of its line. No mark in a program says it, since the text is
+// made by repetition.
 #[test]
 fn nesting_has_a_limit(rt: HostRuntime) -> Result<(), AllocError> {
     for (depth, report, status) in [(198, "", 0), (199, "rgo: 4:218: nesting\n", 1)] {
@@ -89,6 +92,7 @@ fn nesting_has_a_limit(rt: HostRuntime) -> Result<(), AllocError> {
     Ok(())
 }
 
+// The text of a mebibyte is one line of spaces, and is refused at its end.
 #[test]
 fn a_text_has_at_most_one_mebibyte(rt: HostRuntime) -> Result<(), AllocError> {
     let longer = vec![in rt.alloc(); b' '; 1_048_577]?;

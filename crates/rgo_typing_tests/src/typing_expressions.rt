@@ -36,8 +36,8 @@ enum Outcome {
     Constant(i64),
     NoResult,
     OtherShape,
-    /// The rule that is broken first, and the place from the front of the expression.
-    Broken(Rule, usize),
+    /// The rule that is broken first.
+    Broken(Rule),
 }
 
 fn outcome_of(shape: &Shape<'_>) -> Outcome {
@@ -48,22 +48,23 @@ fn outcome_of(shape: &Shape<'_>) -> Outcome {
     }
 }
 
-/// Checks the expression that a program assigns first, where nothing is declared.
-fn checked_in(alloc: Global, role: Role, program: &Program) -> Result<Outcome, Fail> {
+/// Checks the expression that a program assigns first, where nothing is declared. Returns the place of a broken rule, too, from the
+/// beginning of the expression.
+fn checked_in(alloc: Global, role: Role, program: &Program) -> Result<(Outcome, usize), Fail> {
     let expr = assigned(first_stmt(program)?)?;
     let globals = package(alloc);
     let checker = Checker::new(alloc, &globals);
     match checker.check_expr(role, expr) {
-        Ok(checked) => Ok(outcome_of(&checked.shape)),
+        Ok(checked) => Ok((outcome_of(&checked.shape), 0)),
         Err(TypeError::Refused(TypeRefusal { rule, at })) => {
-            Ok(Outcome::Broken(rule, at.saturating_sub(BEFORE.len())))
+            Ok((Outcome::Broken(rule), at.saturating_sub(BEFORE.len())))
         }
         Err(TypeError::NoMemory) => Err(Fail::from("out of memory")),
     }
 }
 
 /// Checks an expression where nothing is declared.
-fn checked(alloc: Global, role: Role, expr: &str) -> Result<Outcome, Fail> {
+fn checked(alloc: Global, role: Role, expr: &str) -> Result<(Outcome, usize), Fail> {
     let program = with_expr(alloc, expr)?;
     checked_in(alloc, role, &program)
 }
@@ -98,52 +99,57 @@ fn local_variables_hide_other_meanings(rt: HostRuntime) -> Result<(), Fail> {
     Ok(())
 }
 
-/// Expressions, whether they are places, whether they may be statements, and where they start
-/// without their parentheses.
-static PLACES: [(&str, bool, bool, usize); 3] = [
-    ("x", true, false, 0),
-    ("((x))", true, false, 2),
-    ("f(\"a\")", false, true, 0),
+/// Expressions in two pieces, the second from where they start without their parentheses on, whether they are places, and whether
+/// they may be statements.
+static PLACES: [(&str, &str, bool, bool); 3] = [
+    ("", "x", true, false),
+    ("((", "x))", true, false),
+    ("", "f(\"a\")", false, true),
 ];
 
 #[test]
 fn variables_are_places_and_calls_may_stand(rt: HostRuntime) -> Result<(), Fail> {
     let globals = package(rt.alloc());
-    for (expr, is_place, may_stand, start) in &PLACES {
-        let program = with_expr(rt.alloc(), expr)?;
+    for (before, from, is_place, may_stand) in &PLACES {
+        let expr = format!(in rt.alloc(); "{before}{from}")?;
+        let program = with_expr(rt.alloc(), &expr)?;
         let tree = assigned(first_stmt(&program)?)?;
         let mut checker = Checker::new(rt.alloc(), &globals);
         checker.declare(b"x", Kind::Plain(Base::Int))?;
-        same(&rt, expr, &checker.is_place(tree), is_place);
-        same(&rt, expr, &checker.may_stand(tree), may_stand);
+        same(&rt, &expr, &checker.is_place(tree), is_place);
+        same(&rt, &expr, &checker.may_stand(tree), may_stand);
         let found = bare(tree).start().saturating_sub(BEFORE.len());
-        same(&rt, expr, &found, start);
+        same(&rt, &expr, &found, &before.len());
     }
     Ok(())
 }
 
-static EXPRESSIONS: [(Role, &str, Outcome); 5] = [
-    (Role::Value, "7 - 2", Outcome::Constant(5)),
-    (Role::Value, "nil", Outcome::OtherShape),
+/// Expressions in two pieces, the second from the place on where a rule is broken, if one is.
+static EXPRESSIONS: [(Role, &str, &str, Outcome); 5] = [
+    (Role::Value, "", "7 - 2", Outcome::Constant(5)),
+    (Role::Value, "", "nil", Outcome::OtherShape),
     (
         Role::Alone,
-        "7 / 0",
-        Outcome::Broken(Rule::ConstZeroDivisor, 2),
+        "7 ",
+        "/ 0",
+        Outcome::Broken(Rule::ConstZeroDivisor),
     ),
     // The arguments are checked before the call.
     (
         Role::Alone,
-        "f(\"a\")",
-        Outcome::Broken(Rule::StringPlace, 2),
+        "f(",
+        "\"a\")",
+        Outcome::Broken(Rule::StringPlace),
     ),
-    (Role::Alone, "fmt.Println(\"a\")", Outcome::NoResult),
+    (Role::Alone, "", "fmt.Println(\"a\")", Outcome::NoResult),
 ];
 
 #[test]
 fn expressions_are_checked(rt: HostRuntime) -> Result<(), Fail> {
-    for (role, expr, wanted) in &EXPRESSIONS {
-        let found = checked(rt.alloc(), *role, expr)?;
-        same(&rt, expr, &found, wanted);
+    for (role, before, from, wanted) in &EXPRESSIONS {
+        let expr = format!(in rt.alloc(); "{before}{from}")?;
+        let found = checked(rt.alloc(), *role, &expr)?;
+        same(&rt, &expr, &found, &(*wanted, before.len()));
     }
     Ok(())
 }

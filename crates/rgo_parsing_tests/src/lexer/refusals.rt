@@ -1,4 +1,6 @@
 //! Texts with their refusals: each its kind and its byte.
+//!
+//! `tools/marked_tables.py --table` writes this file from `tools/marked_programs/refusals.texts`.
 
 /// Texts that are not UTF-8, some of them with other refusals.
 pub(super) static BAD_UTF8: [(&[u8], &str); 12] = [

@@ -1,5 +1,5 @@
 //! Texts with a mark before the lexeme that is refused: `@`, or `$` if the end is refused. A `~`
-//! stands for a newline.
+//! means a newline.
 
 /// Bodies of `main`, between its braces.
 pub(super) const BODIES: &str = "\

@@ -1,6 +1,6 @@
 //! Bodies of `main` that nest: what is before, what is repeated, what is inside, and what closes each
 //! repetition, with the greatest number of repetitions that passes and the lexeme at which one more is
-//! refused.
+//! refused. These lexemes are counted by hand: no mark can be at one of them, since the repetitions are all the same.
 
 pub(super) type Row = (
     &'static str,

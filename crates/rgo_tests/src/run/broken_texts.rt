@@ -1,7 +1,7 @@
 //! Texts that break rules on meaning, as `tools/marked_tables.py --table` writes them.
 //!
 //! Before the first `|` is what a check finds: the place, and `syntax` or the rule with its number and name, or `ok`. A `~`
-//! stands for a newline.
+//! means a newline.
 
 /// Declarations, and the names of types.
 pub(super) const DECLARATIONS: &str = "\

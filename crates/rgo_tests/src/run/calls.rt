@@ -32,8 +32,8 @@ pub(super) fn with_head(alloc: Global, line: &str) -> Result<String, AllocError>
     format!(in alloc; "{HEAD}{line}\n")
 }
 
-/// Calls `rgo` with the words of a line, and returns the status. It says nothing of the call, so that the tests are
-/// proved without what `rgo` says of it.
+/// Calls `rgo` with the words of a line, and returns the status. It has no clause about the call, so that the tests are
+/// proved without the headline.
 pub(super) fn status_of<
     R: Threads + AllocGlobal + Sync,
     S: Source,

@@ -1,4 +1,5 @@
-//! Code texts that are run or refused, as tables of calls, worked out by hand from the meaning of their instructions.
+//! Code texts that are run, as tables of calls, worked out by hand from the meaning of their instructions. The place of a trap is the
+//! one that its instruction has in the text, after `@`.
 
 /// The code of `x := new(N); fmt.Println(x.v)`.
 pub(super) const FIELD: &str = "\
@@ -114,119 +115,6 @@ end
 !
 rgo: regions 0 removed 0 pages 0 returned 0 objects 0 goroutines 1
 rgo: @98: trap 1 NilPointer
-
-> rgo runcode --stats // a removal is missing: nothing runs
-rgo code 1
-struct N int *N
-func main 0 - -
-var *N r0
-var *N r0
-var int -
-entry -[]
-0 @76 +[r0] new v0 N -[]
-1 @73 +[] copy v1 v0 -[]
-2 @98 +[] load v2 v1 0 -[]
-3 @95 +[] print v2 -[]
-4 @101 +[] return -
-end
-
-< 1
-!
-rgo: line 10: code 13
-
-> rgo runcode // of the rules that are broken, the least
-rgo code 1
-struct N int *N
-func main 0 - -
-var *N r0
-var *N r0
-var int -
-entry -[]
-0 @76 +[r0] new v0 N -[]
-1 @73 +[] copy v1 v0 -[]
-2 @98 +[] load v2 v1 1 -[]
-3 @95 +[] print v2 -[]
-4 @101 +[] return -
-end
-
-< 1
-!
-rgo: line 10: code 2
-
-> rgo runcode // a variable is read before it is written
-rgo code 1
-struct N int *N
-func main 0 - -
-var *N r0
-var *N r0
-var int -
-entry -[]
-0 @76 +[] jump 1 -[]
-1 @73 +[] copy v1 v0 -[]
-2 @98 +[] load v2 v1 0 -[r0]
-3 @95 +[] print v2 -[]
-4 @101 +[] return -
-end
-
-< 1
-!
-rgo: line 7: code 8
-
-> rgo runcode // the first line without form
-rgo code 2
-struct N int *N
-func main 0 - -
-var *N r0
-var *N r0
-var int -
-entry -[]
-0 @76 +[r0] new v0 N -[]
-1 @73 +[] copy v1 v0 -[]
-2 @98 +[] load v2 v1 0 -[r0]
-3 @95 +[] print v2 -[]
-4 @101 +[] return -
-end
-
-< 1
-!
-rgo: line 1: code text
-
-> rgo runcode // the text ends too early
-rgo code 1
-struct N int *N
-func main 0 - -
-var *N r0
-var *N r0
-var int -
-entry -[]
-0 @76 +[r0] new v0 N -[]
-1 @73 +[] copy v1 v0 -[]
-2 @98 +[] load v2 v1 0 -[r0]
-3 @95 +[] print v2 -[]
-4 @101 +[] return -
-
-< 1
-!
-rgo: line 13: code text
-
-> rgo runcode // no main
-rgo code 1
-struct N int *N
-func mane 0 - -
-var *N r0
-var *N r0
-var int -
-entry -[]
-0 @76 +[r0] new v0 N -[]
-1 @73 +[] copy v1 v0 -[]
-2 @98 +[] load v2 v1 0 -[r0]
-3 @95 +[] print v2 -[]
-4 @101 +[] return -
-end
-
-< 1
-!
-rgo: line 14: code 1
 ";
 
 /// A division by zero. A place may be any number below 4294967296.
@@ -312,18 +200,4 @@ end
 < 7
 !
 rgo: calls too deep
-
-> rgo runcode // a text of Go is no code text
-package main
-func main() {}
-
-< 1
-!
-rgo: line 1: code text
-
-> rgo runcode // no text
-
-< 1
-!
-rgo: line 1: code text
 ";

@@ -43,7 +43,7 @@ entry -[]
 end
 ";
 
-/// Code texts, and what is reported of them: nothing if they keep all rules.
+/// A code text that keeps all rules: nothing is reported.
 pub(super) const CHECKED: &str = "
 > rgo code
 rgo code 1
@@ -54,47 +54,4 @@ entry -[]
 end
 
 < 0
-
-> rgo code
-
-< 1
-!
-rgo: line 1: code text
-
-> rgo code
-rgo code 1
-
-< 1
-!
-rgo: line 2: code 1
-
-> rgo code
-rgo code 2
-
-< 1
-!
-rgo: line 1: code text
-
-> rgo code
-rgo code 1
-func main 0 - -
-entry -[]
-end
-
-< 1
-!
-rgo: line 4: code 1
-
-> rgo code
-rgo code 1
-func main 0 - -
-var []int r0
-entry -[]
-0 @0 +[r0] nil v0 -[]
-1 @0 +[] return -
-end
-
-< 1
-!
-rgo: line 5: code 13
 ";

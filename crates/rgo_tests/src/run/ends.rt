@@ -1,5 +1,7 @@
 //! Tables of calls with lines after the head whose runs end with a trap or otherwise, worked out from the words of the
 //! language.
+//!
+//! `tools/marked_tables.py --table` writes this file from `tools/marked_programs/ends.calls`.
 
 /// Lines that end with a trap.
 pub(super) const TRAPS: &str = "
@@ -127,6 +129,33 @@ func main() { var c chan int; close(c) }
 < 2
 !
 rgo: 4:36: trap 7 CloseNil
+
+> rgo run --pages 1 --page-words 16 // A negative size traps before a page is taken.
+func main() { x := &N{1, nil}; n := -225; s := make([]int, n); fmt.Println(x.v, len(s)) }
+< 2
+!
+rgo: 4:48: trap 4 BadSize
+
+> rgo run --page-words 16 // An index beyond an object of several pages.
+func main() { s := make([]int, 40); i := 40; fmt.Println(s[39]); fmt.Println(s[i]) }
+< 2
+0
+!
+rgo: 4:79: trap 2 IndexRange
+
+> rgo run --stats // The numbers of a run that traps are reported before the trap.
+func main() {
+\tc := make(chan int, 2)
+\tc <- 7
+\tclose(c)
+\tfmt.Println(<-c, <-c)
+\tc <- 1
+}
+< 2
+7 0
+!
+rgo: regions 1 removed 0 pages 1 returned 0 objects 1 goroutines 1
+rgo: 9:4: trap 5 SendClosed
 ";
 
 /// Words and lines that end otherwise.

@@ -1,5 +1,7 @@
 //! Runs that are recorded and journals that are replayed, as tables of calls, worked out by hand from the code of the
 //! programs.
+//!
+//! `tools/marked_tables.py --table` writes this file from `tools/marked_programs/journals.calls`.
 
 /// Programs, and the journals of their runs.
 pub(super) const RECORDED: &str = "
@@ -464,7 +466,7 @@ rgo: line 2: picks text
 
 > rgo replay // a space at the end
 rgo picks 1
-one 0 
+one 0\x20
 text
 package main
 func main() {}

@@ -1,4 +1,6 @@
 //! Texts that run or are rejected.
+//!
+//! `tools/marked_tables.py --table` writes this file from `tools/marked_programs/refusals.calls`.
 
 /// Lines after the head, as a table of calls.
 pub(super) const LINES: &str = "
@@ -158,4 +160,177 @@ func main() { x := 9223372036854775808 }
 < 1
 !
 rgo: 4:20: lexical 3 BadNumber
+";
+
+/// Code texts with a line that is refused.
+pub(super) const CODES: &str = "
+> rgo code
+
+< 1
+!
+rgo: line 1: code text
+
+> rgo code
+rgo code 1
+
+< 1
+!
+rgo: line 2: code 1
+
+> rgo code
+rgo code 2
+
+< 1
+!
+rgo: line 1: code text
+
+> rgo code
+rgo code 1
+func main 0 - -
+entry -[]
+end
+
+< 1
+!
+rgo: line 4: code 1
+
+> rgo code
+rgo code 1
+func main 0 - -
+var []int r0
+entry -[]
+0 @0 +[r0] nil v0 -[]
+1 @0 +[] return -
+end
+
+< 1
+!
+rgo: line 5: code 13
+
+> rgo runcode --stats // a removal is missing: nothing runs
+rgo code 1
+struct N int *N
+func main 0 - -
+var *N r0
+var *N r0
+var int -
+entry -[]
+0 @76 +[r0] new v0 N -[]
+1 @73 +[] copy v1 v0 -[]
+2 @98 +[] load v2 v1 0 -[]
+3 @95 +[] print v2 -[]
+4 @101 +[] return -
+end
+
+< 1
+!
+rgo: line 10: code 13
+
+> rgo runcode // of the rules that are broken, the least
+rgo code 1
+struct N int *N
+func main 0 - -
+var *N r0
+var *N r0
+var int -
+entry -[]
+0 @76 +[r0] new v0 N -[]
+1 @73 +[] copy v1 v0 -[]
+2 @98 +[] load v2 v1 1 -[]
+3 @95 +[] print v2 -[]
+4 @101 +[] return -
+end
+
+< 1
+!
+rgo: line 10: code 2
+
+> rgo runcode // a variable is read before it is written
+rgo code 1
+struct N int *N
+func main 0 - -
+var *N r0
+var *N r0
+var int -
+entry -[]
+0 @76 +[] jump 1 -[]
+1 @73 +[] copy v1 v0 -[]
+2 @98 +[] load v2 v1 0 -[r0]
+3 @95 +[] print v2 -[]
+4 @101 +[] return -
+end
+
+< 1
+!
+rgo: line 7: code 8
+
+> rgo runcode // the first line without form
+rgo code 2
+struct N int *N
+func main 0 - -
+var *N r0
+var *N r0
+var int -
+entry -[]
+0 @76 +[r0] new v0 N -[]
+1 @73 +[] copy v1 v0 -[]
+2 @98 +[] load v2 v1 0 -[r0]
+3 @95 +[] print v2 -[]
+4 @101 +[] return -
+end
+
+< 1
+!
+rgo: line 1: code text
+
+> rgo runcode // the text ends too early
+rgo code 1
+struct N int *N
+func main 0 - -
+var *N r0
+var *N r0
+var int -
+entry -[]
+0 @76 +[r0] new v0 N -[]
+1 @73 +[] copy v1 v0 -[]
+2 @98 +[] load v2 v1 0 -[r0]
+3 @95 +[] print v2 -[]
+4 @101 +[] return -
+
+< 1
+!
+rgo: line 13: code text
+
+> rgo runcode // no main
+rgo code 1
+struct N int *N
+func mane 0 - -
+var *N r0
+var *N r0
+var int -
+entry -[]
+0 @76 +[r0] new v0 N -[]
+1 @73 +[] copy v1 v0 -[]
+2 @98 +[] load v2 v1 0 -[r0]
+3 @95 +[] print v2 -[]
+4 @101 +[] return -
+end
+
+< 1
+!
+rgo: line 14: code 1
+
+> rgo runcode // a text of Go is not a code text
+package main
+func main() {}
+
+< 1
+!
+rgo: line 1: code text
+
+> rgo runcode // no text
+
+< 1
+!
+rgo: line 1: code text
 ";

@@ -197,20 +197,6 @@ func main() { c := make(chan int); <-c }
 rgo: regions 1 removed 0 pages 1 returned 0 objects 1 goroutines 1
 rgo: deadlock
 
-> rgo run --stats
-func main() {
-\tc := make(chan int, 2)
-\tc <- 7
-\tclose(c)
-\tfmt.Println(<-c, <-c)
-\tc <- 1
-}
-< 2
-7 0
-!
-rgo: regions 1 removed 0 pages 1 returned 0 objects 1 goroutines 1
-rgo: 9:4: trap 5 SendClosed
-
 > rgo run --stats --steps 1000
 func main() { for {} }
 < 8
@@ -221,7 +207,7 @@ rgo: steps spent
 
 /// The same after `LISTS`.
 pub(super) const OVER_LISTS: &str = "
-> rgo run --pages 1 --stats // A thousand lists, one after the other, in one page.
+> rgo run --pages 1 --stats // A thousand lists, one after another, in one page.
 func main() { s := 0; for i := 0; i < 1000; i++ { s += sum(list(10)) }; fmt.Println(s) }
 < 0
 45000

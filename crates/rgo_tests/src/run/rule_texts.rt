@@ -1,7 +1,7 @@
 //! A text for each rule on meaning, and texts that pass, as `tools/marked_tables.py --table` writes them.
 //!
 //! Before the first `|` is what a check finds: the place, and `syntax` or the rule with its number and name, or `ok`. A `~`
-//! stands for a newline.
+//! means a newline.
 
 /// For each rule a line after the head that breaks it, and the nearest that passes.
 pub(super) const RULES: &str = "\

@@ -14,7 +14,7 @@ fn report_of(alloc: Global, finding: &str) -> Result<String, AllocError> {
     format!(in alloc; "rgo: {finding}\n")
 }
 
-/// Checks the text of a row, in which a `~` stands for a newline, between two others. The finding is before the first `|`.
+/// Checks the text of a row, in which a `~` means a newline, between two others. The finding is before the first `|`.
 fn is_checked<R: Threads + Abort + AllocGlobal + Sync>(
     rt: &R,
     before: &str,

@@ -64,19 +64,6 @@ func main() { c := make(chan int, 225); c <- 5; fmt.Println(<-c) }
 !
 rgo: object too large
 
-> rgo run --pages 1 --page-words 16 // A size that is none traps before a page is wanted.
-func main() { x := &N{1, nil}; n := -225; s := make([]int, n); fmt.Println(x.v, len(s)) }
-< 2
-!
-rgo: 4:48: trap 4 BadSize
-
-> rgo run --page-words 16 // An index outside of it traps as of any other.
-func main() { s := make([]int, 40); i := 40; fmt.Println(s[39]); fmt.Println(s[i]) }
-< 2
-0
-!
-rgo: 4:79: trap 2 IndexRange
-
 > rgo run --stats // What is sent through 300 cells.
 func main() { c := make(chan int, 300); for i := 0; i < 300; i++ { c <- i }; s := 0; for i := 0; i < 300; i++ { s += <-c }; fmt.Println(s) }
 < 0
@@ -92,7 +79,7 @@ func main() { x := new(W); x.a = 1; x.b = 2; x.o = 15; x.p = 16; x.q = 17; fmt.P
 !
 rgo: regions 1 removed 1 pages 3 returned 3 objects 1 goroutines 1
 
-> rgo run --page-words 16 --stats // The own page goes on to be filled: both structures lie in one page, beside four of the slice.
+> rgo run --page-words 16 --stats // The goroutine continues to fill its own page: both structures are in one page, besides the four pages of the slice.
 type T struct { v int; s []int; t *T }
 func main() { x := &T{1, nil, nil}; x.s = make([]int, 40); x.s[39] = 3; x.t = &T{2, nil, nil}; fmt.Println(x.v, x.s[39], x.t.v) }
 < 0
