@@ -138,7 +138,7 @@ def add_lists(code, f):
 
 
 def with_regions(code):
-    """The code with its regions. What it says of regions before is forgotten."""
+    """The code with its regions. Any region operations that it already has are dropped."""
     classes = all_classes(code)
     forget = lambda op: dataclasses.replace(op, parts=dict(op.parts))
     functions = [dataclasses.replace(with_classes(f, classes[f.name]), body=list(map(forget, f.body))) for f in code.functions]

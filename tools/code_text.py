@@ -713,7 +713,7 @@ def removes_dead(code):
 
 
 def holds_nothing(code):
-    """14. A return holds and creates nothing."""
+    """14. Before a return no name is held, and a return creates none."""
     for head, f in functions(code):
         live = live_classes(f)
         for line, at, op in body(head, f):

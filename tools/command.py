@@ -18,7 +18,7 @@ class WrongWords(Exception):
 
 
 class Stop(Exception):
-    """The tool ends with a status and one line, which says why."""
+    """The tool ends with a status and one line that says why."""
 
     def __init__(self, status, said):
         super().__init__(status, said)
@@ -65,7 +65,7 @@ def read(file):
 
 
 def one_line(error):
-    """What the system says of a failed call, and of which file."""
+    """The system's message about a failed call, with the file."""
     what = error.strerror or str(error)
     return what if error.filename is None else f"{error.filename}: {what}"
 

@@ -1,8 +1,8 @@
 """Which part of Go a message is about: the row of a table in docs/errors that says what to write instead.
 
-`syntax` is reported at the first token with which no program continues. That token and those before it show which part of
-Go was meant: each entry of CONSTRUCTS has its name, a snippet of the row in docs/errors/syntax.md, and a test. For other
-messages the name at the place is looked up in a table of the message's page.
+`syntax` is reported at the first token with which no program of the grammar can continue. It and those before it show which
+part of Go was meant: each entry of CONSTRUCTS has its name, a snippet of the row in docs/errors/syntax.md, and a test. For
+other messages the name at the place is looked up in a table of the message's page.
 """
 
 import dataclasses
@@ -53,7 +53,7 @@ def tokens(text):
 
 
 class Place:
-    """A place of a text: the token there, or the end of a line, and the tokens beside it."""
+    """A place of a text: the token there, or the end of a line, and its neighbours."""
 
     def __init__(self, text, line, column):
         lines = text.split(b"\n")
@@ -356,14 +356,14 @@ def advice(said):
 
 
 def of_syntax(text, line, column, page):
-    """What to say of a syntax error at a place, or None. `page` is the text of its page."""
+    """The explanation of a syntax error at a place, or None. `page` is the text of its page."""
     found = named(text, line, column)
     said = found and row_with(page, found[1])
     return f"{found[0]} is left out of rgo (`{found[1]}`). {advice(said)}" if said else None
 
 
 def of_type(text, line, column, page):
-    """What to say of a name at the place of another message, or of the function that is called with the place as an
+    """The explanation of a name at the place of another message, or of the function that is called with the place as an
     argument; None if the page has no row for it."""
     if len(text) > LONGEST:
         return None

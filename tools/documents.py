@@ -13,6 +13,14 @@ CODE = re.compile(r"`[^`]*`")
 LINK = re.compile(r"\]\(\s*([^)\s]+)\s*\)")
 # A name in a text: in a link of its own, or not.
 NAME = re.compile(r"\[`[^`]+`\]\([^)]*\)|\[[^]`]*\]\([^)]*\)|`([\w.-]+/[\w./{},*-]*|[\w-]+\.md)`")
+# A link with its text.
+TEXT = re.compile(r"\[([^]]+)\]\(\s*([^)\s]+)\s*\)")
+# Names that a document says are in a file. After `of` only the last of them is: in "`a` of `B` and `C` in [..](..)", `B` is elsewhere.
+WITHIN = re.compile(r"(of\s+)?((?:`[\w.:]+`(?:,\s+(?:and\s+)?|\s+and\s+))*`[\w.:]+`)\s+(?:of|in)\s+\[[^]]+\]\(([^)\s]+\.(?:antt|rt))\)")
+# What follows a link in its sentence, or in its cell of a table.
+REST = re.compile(r"(?:[^|.\n[]|\.(?!\s)|\n(?!\s*(?:\n|- |\||\d+\. )))*")
+# What a merge writes around two texts of one place.
+MERGE = re.compile(r"(?:<{7}|>{7}|\|{7})(?: |$)")
 WIDTH = 132
 
 
@@ -34,7 +42,7 @@ def headings(text):
 
 
 def anchors(text):
-    """What follows the `#` in links to the headings of a document. Of headings that are alike each but the first has a number."""
+    """What follows the `#` in links to the headings of a document. Equal headings are numbered, except the first."""
     found = {}
     for heading in headings(text):
         named = re.sub(r"\[([^]]*)\]\([^)]*\)", r"\1", heading)
@@ -49,6 +57,11 @@ def broken(path):
     return [link for link in links(text) if not leads(path, text, link)]
 
 
+def conflicts(path):
+    """The lines of a document that a merge has left, as `<<<<<<< HEAD`."""
+    return [line for line in path.read_text(encoding="utf-8").splitlines() if MERGE.match(line)]
+
+
 def leads(path, text, link):
     file, _, anchor = link.partition("#")
     to = path.parent / file if file else path
@@ -58,7 +71,7 @@ def leads(path, text, link):
 
 
 def place_of(name, top=TOP):
-    """The file or folder that a name in a document means: from the top or from `crates`. Of several files, their folder."""
+    """The file or folder that a name in a document means: from the top or from `crates`. If there are several files, their folder."""
     before, brace, rest = name.partition("{")
     if brace:
         inner, _, after = rest.partition("}")
@@ -100,6 +113,44 @@ def missing(path, top=TOP):
     text = BLOCK.sub("", path.read_text(encoding="utf-8"))
     names = re.findall(r"`((?:crates/)?(\w+)/(?:src|specs|proofs)\b[\w./{},*-]*)`", text)
     return [name for name, crate in names if top.joinpath("crates", crate).is_dir() and place_of(name, top) is None]
+
+
+def misnamed(path):
+    """The links of a document whose text is a file's name, but not that of the file that they lead to."""
+    found = TEXT.findall(BLOCK.sub("", path.read_text(encoding="utf-8")))
+    return [f"[{text}]({link})" for text, link in found if not is_name_of(text.strip("`"), link)]
+
+
+def is_name_of(text, link):
+    if not re.fullmatch(r"[\w./-]+\.(antt|rt)", text):
+        return True
+    return text.rpartition("/")[2] == link.partition("#")[0].rpartition("/")[2]
+
+
+def absent(path):
+    """The names that a document gives with a place where they are not.
+
+    These are names before "in" or "of" a linked file of definitions or code; capitalised names after such a file and a colon; and
+    names of files after a linked folder of definitions or proofs, in the same sentence or cell.
+    """
+    text = BLOCK.sub("", path.read_text(encoding="utf-8"))
+    named = [(name, link) for of, names, link in WITHIN.findall(text) for name in re.findall(r"`([^`]+)`", names)[-1 if of else 0 :]]
+    wrong = [(name, link) for name, link in named if not all(has_word(path, link, word) for word in re.findall(r"\w+", name))]
+    for found in TEXT.finditer(text):
+        link = found[2]
+        rest = REST.match(text, found.end())[0]
+        if link.endswith((".antt", ".rt")):
+            names = re.findall(r"`([A-Z]\w*)`", rest) if rest.startswith(": ") else []
+            wrong += [(name, link) for name in names if not has_word(path, link, name)]
+        elif {"specs", "proofs"} & set(link.split("/")) and (path.parent / link).is_dir():
+            names = re.findall(r"`((?:\w+/)*[A-Z][\w*]*)(?:\.antt)?`", rest)
+            wrong += [(name, link) for name in names if not any((path.parent / link).glob(f"{name}.antt"))]
+    return [f"{name} is not in {link}" for name, link in dict.fromkeys(wrong)]
+
+
+def has_word(path, link, word):
+    to = path.parent / link
+    return not to.is_file() or bool(re.search(rf"\b{word}\b", to.read_text(encoding="utf-8")))
 
 
 def wrapped(text):

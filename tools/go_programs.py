@@ -1,6 +1,6 @@
 """Random programs of the language that Go takes too, by a seed.
 
-Every program ends by itself: loops count to a bound, recursion counts down, and goroutines only talk
+Every program terminates: loops count to a bound, recursion counts down, and goroutines only talk
 over channels in patterns with one possible print. A program may trap, and some end in a deadlock.
 Every variable is used, since Go asks for that.
 """

@@ -9,7 +9,7 @@ SECONDS = 20
 
 Outcome = collections.namedtuple("Outcome", "end printed detail")
 
-# What Go's runtime says of each trap, and of a deadlock.
+# The message of Go's runtime for each trap, and for a deadlock.
 GO_ENDS = [
     ("invalid memory address or nil pointer dereference", "NilPointer"),
     ("index out of range", "IndexRange"),

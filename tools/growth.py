@@ -53,7 +53,7 @@ def place_of(region):
 
 
 def said_of(ran, source, file):
-    """What is said of a run: the place whose live regions have the most pages, and which instruction made most of their
+    """The report about a run: the place whose live regions have the most pages, and which instruction made most of their
     objects. The empty list if no region has a page."""
     live = [region for region in [ran.package, *ran.regions] if region.removed is None and region.pages]
     if not live or not ran.made:

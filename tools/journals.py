@@ -1,6 +1,6 @@
 """Journals of runs, read, written and followed independently of the program.
 
-A journal lists the steps that a run takes, a line for each: `one G` is a step of goroutine G by itself, and `meet R S` a
+A journal lists the steps that a run takes, a line for each: `one G` is a step of goroutine G alone, and `meet R S` a
 receiver and a sender that pass a value on together. docs/JOURNALS.md explains the format.
 
 `read` turns a text into a `Journal`. `follow` runs a `code_text.Code` by its picks, up to the first that has no step, and
@@ -138,7 +138,7 @@ def follow(code, journal, limits, out=lambda line: None, most=None):
     return Followed(ran, goroutines, len(picks), ran.end, False)
 
 
-# ---- where goroutines stand
+# ---- where goroutines are
 
 
 def at(g):
@@ -153,7 +153,7 @@ def channel_of(g):
 
 
 def is_ready(g):
-    """Whether a goroutine has a step by itself."""
+    """Whether a goroutine has a step alone."""
     word, channel = at(g).word, None
     if word not in ("recv", "send"):
         return True
@@ -164,7 +164,7 @@ def is_ready(g):
 
 
 class Sides:
-    """Who stands at which side of each open channel without capacity: the first goroutine of each side, by its number."""
+    """For each open channel without capacity, the first goroutine that waits on each side, by its number."""
 
     def __init__(self, goroutines):
         self.first = {}
@@ -179,7 +179,7 @@ class Sides:
 
 
 def is_deadlock(goroutines):
-    """Whether no goroutine has a step, by itself or with another."""
+    """Whether no goroutine has a step, alone or with another."""
     sides = Sides(goroutines)
     return not any(g.frames and (is_ready(g) or sides.partner(g) is not None) for g in goroutines)
 

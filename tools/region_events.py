@@ -1,4 +1,4 @@
-"""What the code of a program says of regions, beside its source: what tools/regions prints.
+"""The region operations in the code of a program, beside its source, as tools/regions prints them.
 
 `events` finds in a `code_text.Code` what happens to regions, and where. `listed` says it in one line each, and `beside`
 in a margin of the source. The source is in bytes, and is the valid program that the code was made from.
@@ -153,7 +153,7 @@ def listed(found, source):
 
 
 def rows(found):
-    """What a margin says of the events of a line: a row for each kind, and for each call and condition."""
+    """The margin for the events of a line: a row for each kind, and for each call and condition."""
     several = len({event.function for event in found}) > 1
     regions = collections.defaultdict(list)
     for event in sorted(found, key=lambda event: KINDS.index(event.kind)):

@@ -15,12 +15,12 @@ from error_pages import shown
 # The most columns, in pixels, and the most pixels of the height; the pixels of a page if there are few.
 WIDTH, HEIGHT, PAGE = 960, 360, 40
 LEFT, TOP, RIGHT, LINE = 64, 96, 40, 18
-# A bar of fewer pixels in either direction is drawn together with those beside it.
+# A bar of fewer pixels in either direction is drawn together with its neighbours.
 VISIBLE = 2
 # The most bars that are drawn apart.
 MOST_BARS = 1500
 # Colours that differ also for those who see few. They are given to the places with the most pages. Every second bar of
-# a colour is lighter, so that bars beside each other can be told apart.
+# a colour is lighter, so that neighbouring bars can be distinguished.
 COLOURS = "#4477aa #ee6677 #228833 #ccbb44 #66ccee #aa3377 #ee8866 #44bb99 #99ddff #bbcc33 #aa4499 #ddaa77".split()
 PACKAGE_COLOUR, OTHER_COLOUR = "#777777", "#aaaaaa"
 
@@ -66,7 +66,7 @@ class Columns:
         return max(first, self.changed[max(changes, key=self.pages.__getitem__)])
 
     def column(self, step):
-        """The first column that shows what there is after so many steps."""
+        """The first column that shows the state after a number of steps."""
         return bisect.bisect_left(self.moments, step)
 
     def pixel(self, column):
@@ -105,7 +105,7 @@ def heights(bar, columns):
 
 
 def size_of(region, columns, page):
-    """The width and the height of a region, in pixels. A page has so many."""
+    """The width and the height of a region, in pixels."""
     end = columns.count if region.removed is None else columns.column(region.removed)
     return (end - columns.column(region.pages[0])) * WIDTH / columns.count, len(region.pages) * page
 
@@ -130,7 +130,7 @@ def place_of(region):
 
 
 def bars_of(regions, columns, page):
-    """All bars, from the lowest one on: as many as can be told apart."""
+    """All bars, from the lowest one up: as many as can be distinguished."""
     by_place = collections.defaultdict(list)
     for region in regions:
         if region.pages:
@@ -162,7 +162,7 @@ def parts_of(bar, bases, columns):
 
 
 def lifted(column, end, pages, bases):
-    """The bases and the tops of a bar with so many pages from one column to another, where they change."""
+    """The bases and the tops of a bar with a number of pages from one column to another, where they change."""
     before = None
     for at in range(column, end):
         base = bases[at]
@@ -240,7 +240,7 @@ def ending(ran, source):
 
 
 def ticks(most, count):
-    """Round numbers up to a number: at most so many, and 0."""
+    """Round numbers up to a number: at most a given count, and 0."""
     step = 1
     while most // step > count:
         # 1, 2, 5, 10, 20, 50 ..

@@ -70,7 +70,7 @@ class Flow:
                 self.before[to].append(at)
 
     def loop(self, at, avoided=()):
-        """The instructions on the ways from one back to itself that avoid some others. Empty if there is no such way."""
+        """The instructions on the ways from one back to itself that avoid some others. Empty if none exists."""
         return reached(at, self.after, avoided) & reached(at, self.before, avoided) if at not in avoided else set()
 
     def entries(self, loop):
@@ -157,7 +157,7 @@ class Program:
         return "nil"
 
     def step(self, f, op, one, other):
-        """What an instruction says of two members that it joins, or None if their words say it already."""
+        """The explanation of how an instruction joins two members, or None if their words already say it."""
         part = lambda name: self.described(f, op.parts[name])
         match op.word:
             case "copy":
@@ -283,7 +283,7 @@ class Program:
         return found or ({RESULT} if f.result and f.result.cls == cls else set())
 
     def starts(self, f, op, formal):
-        """The members of the function that stand for what an instruction makes."""
+        """The members of the function that represent what an instruction makes."""
         if op.word in MAKERS:
             return [op.parts["d"]]
         callee = callee_of(self.code, op)

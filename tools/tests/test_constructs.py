@@ -11,7 +11,7 @@ import error_pages
 from error_pages import PAGES, TOP
 
 PAGE = PAGES.joinpath("syntax.md").read_text(encoding="utf-8")
-# Lines in a function, with a § before the first token with which no program continues, by a snippet of their row.
+# Lines in a function, with a § before the first token with which no program of the grammar can continue, by a snippet of their row.
 INSIDE = {
     "a, b := 1, 2": ["a§, b := 1, 2", "lo§, hi := 0, len(s)-1", "for i§, j := 0, 9; i < j; i++ {", "x§, err := f(1)"],
     "a, b = b, a": ["a§, b = b, a", "s[i]§, s[j] = s[j], s[i]"],

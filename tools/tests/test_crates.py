@@ -13,7 +13,7 @@ from error_pages import TOP
 
 # Three crates, one on the other, and one beside them.
 CRATES = "# Crates\nlow:\nmiddle: clap low\nhigh: middle\nother:\n"
-# Says what it is called with, and where; as a gate it ends as one that began from nothing. The file `fails` names the
+# Says what it is called with, and where; as a gate it ends as one that began from scratch. The file `fails` names the
 # folder in which it fails, or has a `*`.
 RT = """#!/bin/sh
 echo "rt $*"
@@ -194,7 +194,7 @@ class Count(Tools):
         ran = self.run_tool("count", "--write", text="rt: ok\n3 passed, 0 failed\n")
         self.assertEqual(0, ran.returncode)
         self.assertIn("3 passed", ran.stderr)
-        self.assertRegex(self.table(), r"\n\nThe gate from nothing took 0 minutes on \d+ processors, and 0 minutes of one processor: .*\n.*\n<!--")
+        self.assertRegex(self.table(), r"\n\nThe whole gate, from scratch, took 0 minutes on \d+ processors, and 0 minutes of one processor: .*\n.*\n<!--")
         self.assertNotIn("An earlier gate", self.table())
 
     def test_provers_of_the_gate_are_timed(self):

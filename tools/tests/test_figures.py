@@ -4,6 +4,7 @@ import pathlib
 import tempfile
 import unittest
 
+import command
 from error_pages import TOP
 from test_proofs import loaded
 
@@ -24,6 +25,13 @@ class Figures(unittest.TestCase):
             if places != self.tool.EVERYWHERE:
                 with self.subTest(sentence):
                     self.assertEqual(1, len(list(self.tool.found(places, sentence))))
+
+    def test_what_is_counted_exists(self):
+        for _, sentence, ways in self.tool.FIGURES:
+            with self.subTest(sentence):
+                self.assertTrue(all(way() for way in ways))
+        with self.assertRaises(command.Stop):
+            self.tool.matches("crates/rgo_memory/specs/Traps.antt", r"^no_such_name ")
 
     def test_numbers_in_words_and_digits(self):
         for number, value in [("14", 14), ("fourteen", 14), ("Seven", 7), ("6,079", 6079)]:

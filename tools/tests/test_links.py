@@ -31,15 +31,16 @@ class Documents(unittest.TestCase):
                 self.assertEqual([], documents.missing(TOP / name))
 
 
-    def test_what_is_named_with_its_file_is_in_it(self):
-        named = re.compile(r"((?:`\w+`, )*`\w+`) (?:of|in)\s+\[`[^`]*`\]\(([^)]*\.(?:antt|rt))\)")
-        for name in documents.LINKED:
-            found = named.findall((TOP / name).read_text(encoding="utf-8"))
-            for names, link in found:
-                text = (TOP / name).parent.joinpath(link).read_text(encoding="utf-8")
-                for one in re.findall(r"\w+", names):
-                    with self.subTest(name, link=link):
-                        self.assertRegex(text, rf"\b{one}\b")
+    def test_what_is_named_with_its_place_is_there(self):
+        for path in documents.paths():
+            with self.subTest(str(path.relative_to(TOP))):
+                self.assertEqual([], documents.misnamed(path))
+                self.assertEqual([], documents.absent(path))
+
+    def test_no_merge_is_left(self):
+        for path in documents.paths():
+            with self.subTest(str(path.relative_to(TOP))):
+                self.assertEqual([], documents.conflicts(path))
 
 
 class Links(unittest.TestCase):
@@ -87,6 +88,43 @@ class Links(unittest.TestCase):
     def test_names_of_no_file(self):
         text = "`low/src/a.rt`, `crates/low/src/{a,b}.rt`, `low/src/c.rt`, `low/src/{a,c}.rt`, `high/src/a.rt` and `low/a`.\n"
         self.assertEqual(["low/src/c.rt", "low/src/{a,c}.rt"], documents.missing(self.written(text), self.top))
+
+    def test_links_with_the_name_of_another_file(self):
+        good = "[a.rt](../crates/low/src/a.rt), [`low/src/b.rt`](../crates/low/src/b.rt), [what a.rt is](OTHER.md), [a](x.rt)\n"
+        self.assertEqual([], documents.misnamed(self.written(good)))
+        wrong = ["[a.rt](../crates/low/src/b.rt)", "[`low/src/a.rt`](../crates/low/src)", "[`A.antt`](../crates/low/specs/B.antt)"]
+        self.assertEqual(wrong, documents.misnamed(self.written(good + " ".join(wrong))))
+
+    def test_names_that_are_not_in_their_place(self):
+        specs = self.top / "crates" / "low" / "specs"
+        specs.joinpath("words").mkdir(parents=True)
+        specs.joinpath("Lists.antt").write_text("pub record Sorted\n  pub least : Item\n")
+        specs.joinpath("words", "Front.antt").touch()
+        file, folder = "[Lists.antt](../crates/low/specs/Lists.antt)", "[`low/specs`](../crates/low/specs)"
+        good = [
+            f"`Sorted`, `least` in\n{file}, `x` of `Other` and `Sorted.least` in {file}; and `Nothing`.",
+            f"{file}: lists that are `Sorted`, which `sort` returns. `Other` is elsewhere.",
+            f"| {folder}: `Lists`, `words/Front`, `words/Fr*`; small examples are in `Lists.antt` | `Other` |",
+            f"In {folder}, as `Lists`. `Other` too.\n\n- `Other`",
+        ]
+        for text in good:
+            with self.subTest(text):
+                self.assertEqual([], documents.absent(self.written(text)))
+        wrong = {
+            f"`Sorted`, `most` in\n{file}": ["most is not in ../crates/low/specs/Lists.antt"],
+            f"`Other` and `Sorted` in {file}": ["Other is not in ../crates/low/specs/Lists.antt"],
+            f"{file}: `Sorted`; `Refuses`,\nthe first": ["Refuses is not in ../crates/low/specs/Lists.antt"],
+            f"| {folder}: `Lists`, `Front`, `words/Back` |": ["Front is not in ../crates/low/specs", "words/Back is not in ../crates/low/specs"],
+            f"{folder}: `Lists`,\nand small examples in `Examples`.": ["Examples is not in ../crates/low/specs"],
+        }
+        for text, found in wrong.items():
+            with self.subTest(text):
+                self.assertEqual(found, documents.absent(self.written(text)))
+
+    def test_what_a_merge_leaves(self):
+        left = ["<<<<<<< HEAD", "||||||| 1a2b3c", ">>>>>>> 1a2b3c"]
+        self.assertEqual(left, documents.conflicts(self.written("\n".join(["# A", left[0], "a", left[1], "=======", "b", left[2], ""]))))
+        self.assertEqual([], documents.conflicts(self.written("Title\n=======\n\n<<<<<<<< and `<<<<<<< HEAD` within a line\n")))
 
     def test_only_what_has_changed_is_laid_out_anew(self):
         text = "Short\nlines.\n\n- one\n  two\n- `low/src/a.rt`\n  and more\n\n| `low/src/b.rt` |\n\n```\n`low/src/a.rt`\n```\n"

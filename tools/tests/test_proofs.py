@@ -63,11 +63,11 @@ class Definitions(unittest.TestCase):
 
 class Homes(unittest.TestCase):
     tool = loaded("homes")
-    # How many names of the definitions that the headline is made of may have several homes.
+    # How many names of definitions may have several homes, in all crates together.
     MOST = 20
 
-    def test_few_names_of_what_the_headline_is_made_of_have_several_homes(self):
-        shared = self.tool.several(self.tool.homes(self.tool.trusted()))
+    def test_few_names_have_several_homes(self):
+        shared = self.tool.several(self.tool.homes())
         self.assertLessEqual(len(shared), self.MOST, " ".join(shared))
 
     def test_what_is_counted(self):
@@ -97,7 +97,7 @@ class Answers(unittest.TestCase):
 
     def test_what_the_tables_name_exists(self):
         page = TOP.joinpath("docs", "PROOF.md").read_text(encoding="utf-8")
-        section = re.search(r"^## Answers and their causes\n(.*?)^## ", page, re.DOTALL | re.MULTILINE)[1]
+        section = re.search(r"^## Statuses and results, and their causes\n(.*?)^## ", page, re.DOTALL | re.MULTILINE)[1]
         rows = [line.split(" | ") for line in section.splitlines() if line.startswith("| ") and "---" not in line]
         self.assertGreater(len(rows), 40)
         names = self.declared() | {path.name for path in (TOP / "crates").iterdir()}

@@ -3,7 +3,9 @@ those of all documents."""
 
 import re
 import unittest
+from collections import Counter
 
+import documents
 from crates import crates
 from error_pages import TOP
 
@@ -31,6 +33,7 @@ class Readmes(unittest.TestCase):
                 self.assertEqual(f"# `{crate}`", text.split("\n", 1)[0])
                 self.assertEqual(HEADINGS, re.findall(r"^## (.*)$", text, re.MULTILINE))
                 self.assertLessEqual(len(text.splitlines()), MOST_LINES)
+                self.assertEqual([], [heading for heading, many in Counter(documents.headings(text)).items() if many > 1])
 
     def test_no_section_is_empty(self):
         for crate in crates():
