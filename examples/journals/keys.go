@@ -2,7 +2,7 @@ package main
 
 import "fmt"
 
-// Each clerk needs both keys, and they do not take them in the same order.
+// Each clerk needs both keys, but the two clerks take them in different orders.
 func clerk(name int, first, second, done chan int) {
 	first <- name
 	second <- name

@@ -5,22 +5,22 @@
     rgo runcode < FILE.code
 
 A line is `x = EXPR`, `x[EXPR] = EXPR`, `x = list EXPR`, `print EXPR ..`, `while EXPR`, `if EXPR`, `else` or `end`. An EXPR is a
-number, `true`, `false`, `x`, `x[EXPR]`, `len x`, or made of these with operators and brackets. Each list variable has a region
-of its own: created where a list is made, removed where it is used for the last time. What has the wrong type, `rgo code` and
-`rgo runcode` report; a trap, at the line of FILE.calc.
+number, `true`, `false`, `x`, `x[EXPR]`, `len x`, or a combination of these with operators and brackets. Each list variable has
+its own region, which is created where a list is made and removed where the list is used for the last time. `rgo code` and `rgo
+runcode` report values of the wrong type, and `rgo runcode` reports a trap at the line of FILE.calc.
 """
 
 import re
 import sys
 
 TOKEN = re.compile(r"\s*(\d+|[a-z]\w*|[<>=!]=|[-+*/%<>=()\[\]])")
-# Operators by what binds them, the weakest first, and the words of the code text.
+# The operators of each precedence, the lowest first, and their words in the code text.
 LEVELS = [{"==": "eq", "!=": "ne", "<": "lt", "<=": "le", ">": "gt", ">=": "ge"},
           {"+": "add", "-": "sub"}, {"*": "mul", "/": "div", "%": "rem"}]  # fmt: skip
 
 
 def tokens(line, at):
-    """The tokens of a line, which is not a comment."""
+    """The tokens of a line without its comment."""
     found, end = [], 0
     while line[end:].strip():
         token = TOKEN.match(line, end)
@@ -33,7 +33,7 @@ def tokens(line, at):
 
 class Compiler:
     def __init__(self, text):
-        # The types of variables, variables by name, and instructions: the line, words, what is read and written, targets.
+        # The types of variables, the variables by name, and the instructions: line, words, what is read and written, targets.
         self.types, self.named, self.code = [], {}, []
         self.lines = [tokens(line.partition("#")[0], at) for at, line in enumerate(text.splitlines(), 1)]
         self.at = 0
@@ -49,7 +49,7 @@ class Compiler:
         self.code.append([self.at, words, reads, written, [len(self.code) + 1] if targets is None else targets])
         return written
 
-    # A line of the program, as far as it is not read yet: what is taken has to be this, if it is given.
+    # Takes the next token of the line. If `wanted` is given, it has to be that token.
     def take(self, wanted=None):
         token = self.line.pop(0) if self.line else "the end of the line"
         if wanted is not None and token != wanted:
@@ -57,7 +57,7 @@ class Compiler:
         return token
 
     def block(self):
-        """The lines up to the `end` or `else` of a block, which it returns, or `None` at the end of the text."""
+        """Compiles the lines up to the `end` or `else` of a block, and returns that word, or `None` at the end of the text."""
         while self.at < len(self.lines):
             self.line, self.at = self.lines[self.at], self.at + 1
             word = self.take() if self.line else ""
@@ -90,7 +90,7 @@ class Compiler:
             self.code[jump][4] = [len(self.code)]
 
     def inside(self, *wanted):
-        """The lines of a block, up to one of these words."""
+        """Compiles the lines of a block, which has to end with one of these words, and returns that word."""
         first, last = self.at, self.block()
         if last not in wanted:
             sys.exit(f"line {first}: the block that begins here has no end")
@@ -115,7 +115,7 @@ class Compiler:
         return self.emit(f"copy v{variable} v{value}", [value], variable)
 
     def declared(self, name, ty):
-        """The variable of a name, which comes to be with the first value that it gets."""
+        """The variable of a name. The first assignment declares it, and fixes its type."""
         if name not in self.named:
             self.named[name] = self.new(ty)
         if self.types[self.named[name]] != ty:
@@ -160,7 +160,7 @@ class Compiler:
             return self.emit(f"at v{{0}} v{variable} v{index}", [variable, index], self.new("int"))
         return variable
 
-    # ---- regions: variable v, if it is a list, has the class of number v
+    # ---- regions: the class of a list variable has the number of the variable
 
     def live(self):
         """The lists that are live before each instruction."""

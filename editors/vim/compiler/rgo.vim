@@ -1,5 +1,5 @@
 " Vim compiler file
-" Compiler: rgo, by way of rgor, which begins a message with the file, the line and the column
+" Compiler: rgo, called through rgor, whose messages begin with the file, the line and the column
 
 if exists('current_compiler')
   finish

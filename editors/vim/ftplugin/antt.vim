@@ -6,7 +6,7 @@ if exists('b:did_ftplugin')
 endif
 let b:did_ftplugin = 1
 
-" Names have hyphens and primes, so that a jump by CTRL-] takes the whole name.
+" Names may contain hyphens and primes, so that CTRL-] jumps from the whole name.
 setlocal iskeyword=@,48-57,_,-,39,192-255
 setlocal comments=:-- commentstring=--\ %s
 setlocal expandtab shiftwidth=2

@@ -5,7 +5,7 @@ if exists('b:current_syntax')
   finish
 endif
 
-" All but the clauses is shown as Rust.
+" Everything except the clauses is shown as Rust.
 runtime! syntax/rust.vim
 unlet! b:current_syntax
 syn include @rattleLogic syntax/antt.vim

@@ -1,8 +1,8 @@
 " Vim syntax file
 " Language: code texts of rgo, as docs/CODE_TEXT.md defines them
 "
-" From where a line has no form to its end it is shown as an error. The order of lines, and the order and the size of
-" numbers, are not looked at.
+" A malformed line is shown as an error, from the first place that does not match to its end. The order of lines, and the
+" order and the size of numbers, are not checked.
 
 if exists('b:current_syntax')
   finish
@@ -11,7 +11,7 @@ endif
 let s:cpo_save = &cpo
 set cpo&vim
 
-" One or more of these, with commas between them; and the same or nothing.
+" Patterns for one or more of these with commas between them, and for none or more.
 function! s:some(pattern)
   return a:pattern . '\%(,' . a:pattern . '\)*'
 endfunction
@@ -30,7 +30,7 @@ let s:names = '\[' . s:listed('r' . s:number) . '\]'
 let s:escape = '\\\%(["\\n]\|x\%(0[0-9b-f]\|1[0-9a-f]\|7f\|[89a-f][0-9a-f]\)\)'
 let s:string = '"\%([\x20\x21\x23-\x5b\x5d-\x7e]\|' . s:escape . '\)*"'
 
-" The words of the forms below: the pattern of what is in the place of a word, how it is shown, and what is inside it.
+" The words of the lines below: the pattern of the text in the place of a word, its colour, and what is inside it.
 let s:words = {
       \ 'variable': [s:variable, 'Variable'],
       \ 'optional': ['\%(' . s:variable . '\|-\)', 'Variable'],
@@ -51,7 +51,7 @@ let s:words = {
       \ 'protects': ['P' . s:names, 'Protects', 'Empty'],
       \ 'removes': ['-' . s:names, 'Removes', 'Empty'],
       \ }
-" What follows the first word of a line, and the word of an instruction.
+" Lines by their first word, and instructions by theirs, each with the words that follow.
 let s:lines =<< trim END
   struct fields
   global global type
@@ -90,7 +90,7 @@ let s:instructions =<< trim END
   return optional
 END
 
-" Defines a group for these words in a row, and returns its name. What follows the last of them is an error.
+" Defines a group for a sequence of words, and returns its name. Anything after the last word is an error.
 let s:defined = {}
 function! s:group(words)
   let group = 'rgocode_' . join(a:words, '_')
@@ -99,7 +99,7 @@ function! s:group(words)
   endif
   let s:defined[group] = 1
   let [pattern, shown; inside] = s:words[a:words[0]]
-  " The blank before a word is not shown as a part of it.
+  " The blank before a word is not coloured.
   let item = '/ ' . pattern . (len(a:words) > 1 ? ' \@=' : '') . '/hs=s+1 contained'
   let item .= len(a:words) > 1 ? ' nextgroup=' . s:group(a:words[1:]) : ''
   let item .= empty(inside) ? '' : ' contains=rgocode' . inside[0]
@@ -108,7 +108,7 @@ function! s:group(words)
   return group
 endfunction
 
-" The first words of these forms, each with the groups that may follow it.
+" The first words of these lines, each with the groups that may follow it.
 function! s:begun(forms)
   let found = {}
   for [word; words] in map(copy(a:forms), 'split(v:val)')
@@ -118,7 +118,7 @@ function! s:begun(forms)
 endfunction
 
 syn case match
-" At each place Vim takes the last of these items that matches there.
+" At each place, Vim takes the last of these items that matches there.
 syn match rgocodeError /.\+/
 syn match rgocodeHead /\%^rgo code 1$/
 syn match rgocodeWord /^end$/

@@ -1,10 +1,10 @@
-// Jumps to definitions by the index that tools/tags writes at the top of the repository.
+// Jumps to definitions, with the index that tools/tags writes at the top of the repository.
 "use strict";
 
 const fs = require("fs");
 const path = require("path");
 
-// The index in a folder or in one above it, which is that of the repository.
+// The index in a folder or in a folder above it, which is the top of the repository.
 function findIndex(folder) {
   const file = path.join(folder, "tags");
   if (fs.existsSync(file)) {
@@ -14,7 +14,7 @@ function findIndex(folder) {
   return above === folder ? null : findIndex(above);
 }
 
-// The definitions in an index: for each name its files and lines, from 0, in the order of the index.
+// The definitions in an index: for each name its files and lines, counted from 0, in the order of the index.
 function readIndex(file) {
   const found = new Map();
   for (const line of fs.readFileSync(file, "utf8").split("\n")) {
@@ -29,7 +29,7 @@ function readIndex(file) {
   return found;
 }
 
-// The index that was read last, with the time at which it was written. It is read again when it was written again.
+// The index that was read last, with the time at which it was written. It is read again if it has been rewritten.
 let known = { file: null, written: 0, definitions: new Map() };
 
 function definitionsOf(name, folder) {
