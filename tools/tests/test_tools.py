@@ -46,6 +46,7 @@ WRONG = {
     "test-tools": ["--all"],
     "test-workers": ["a b", "--all"],
     "touches": ["", "--", "-x", "--write Len"],
+    "unproved": ["", "a b", "--all"],
     "wrong-bodies": ["--all", "--changed a b"],
 }
 # Words with a file, F, that is missing or a folder, and the status.
