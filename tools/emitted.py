@@ -19,7 +19,7 @@ def text_of(program, file, text):
 
 def code_of(file, text):
     """The code of the text of a file; or the status of rgo, if that is not 0. The tool ends if rgo cannot do it."""
-    program = error_pages.existing(error_pages.program())
+    program = error_pages.existing()
     status, emitted = text_of(program, file, text)
     if status == 64:
         raise command.Stop(status, f"{program} does not know the command emit: build it again")

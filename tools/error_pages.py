@@ -49,8 +49,15 @@ LINE = re.compile(
 CODE = "rgo code"
 # What rgo reports of a write that failed.
 WRITE_FAILED = b"rgo: write failed\n"
+# The program that `rgo --unproved` has compiled and kept.
+UNPROVED = TOP / "crates" / "rgo" / "out" / "unproved"
+# What a tool says that uses it.
+NOT_PROVED = "no proved program is built, so this is done by the one of ./rgo --unproved, of which nothing is proved"
 # What a tool says that needs the program.
-NOT_BUILT = "no program is built: run ./rgo run < examples/hello.go once, or name a program by the variable RGO"
+NOT_BUILT = (
+    "no program is built: run ./rgo run < examples/hello.go once, which proves it in half an hour, or"
+    " ./rgo --unproved run < examples/hello.go, which proves nothing and takes about four minutes; or name a program by the variable RGO"
+)
 
 
 class BadPage(Exception):
@@ -276,17 +283,30 @@ def run(words, source, file, text, out=None):
 
 
 def program():
-    """The file of the program: what the variable RGO names, or else the one that is installed or built here. Whether it
-    exists is another question: none is built for the sake of a tool."""
+    """The file of the proved program: what the variable RGO names, or else the one that is installed or built here. Whether
+    it exists is another question: none is built for the sake of a tool."""
     is_repository = TOP.joinpath("crates.txt").is_file()
     return os.environ.get("RGO") or str(TOP / "crates" / "rgo" / "out" / "rgo" if is_repository else TOP / "rgo")
 
 
-def existing(file):
-    """The file of a program if it can be run; otherwise the tool ends."""
-    if found := shutil.which(str(file)):
-        return found
-    if os.environ.get("RGO") or str(file) != program():
-        reason = "it is not a program" if os.path.exists(file) else os.strerror(errno.ENOENT)
-        raise command.Stop(command.NO_PROGRAM, f"cannot run {file}: {reason}")
-    raise command.Stop(command.NO_PROGRAM, NOT_BUILT)
+def found():
+    """The file of the program that a tool uses if its words name none, or None if there is none. Where no proved one is built it
+    is the one of `rgo --unproved`, and a line says so; but never where the variable RGO names one, as the gate does."""
+    file = shutil.which(program())
+    if not file and not os.environ.get("RGO"):
+        file = shutil.which(UNPROVED)
+        if file:
+            command.complain(NOT_PROVED)
+    return file
+
+
+def existing(file=None):
+    """The file of a program if it can be run; if none is named, what `found` finds. Otherwise the tool ends."""
+    runs = found() if file is None else shutil.which(str(file))
+    if runs:
+        return runs
+    if file is None and not os.environ.get("RGO"):
+        raise command.Stop(command.NO_PROGRAM, NOT_BUILT)
+    file = program() if file is None else file
+    reason = "it is not a program" if os.path.exists(file) else os.strerror(errno.ENOENT)
+    raise command.Stop(command.NO_PROGRAM, f"cannot run {file}: {reason}")

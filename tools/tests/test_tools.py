@@ -70,6 +70,8 @@ NO_FILE = {
 WRONG, NO_FILE = ({words: found for words, found in table.items() if words.split()[0] in TOOLS} for table in (WRONG, NO_FILE))
 # Words that need the program where none is built.
 NO_PROGRAM = ["compare-with-go", "examples", "fail", "mutate", "listing a.go", "regions a.go", "rgor a.go", "rgor --check a.go", "soak", "test-workers"]
+# Words that use the program of `rgo --unproved` if there is no other. The one that plays its part rejects every text.
+UNPROVED = {"examples": 1, "explain a.go": 0, "listing a.go": 1, "regions a.go": 1, "rgor a.go": 1, "rgor --check a.go": 1}
 # Words that print something without the program, and need nothing to be installed.
 PRINTING = ["code_producer.py texts/all.tac", "definitions", "count", "explain", "listing texts/all.code"]
 
@@ -97,10 +99,12 @@ class Tools(unittest.TestCase):
             cls.top.joinpath(name).write_text(f"#!/bin/sh\n{script}\n")
             cls.top.joinpath(name).chmod(0o755)
 
-    def run_tool(self, words, **streams):
-        """The status of a tool, what it prints, and what it reports."""
+    def run_tool(self, words, rgo=None, **streams):
+        """The status of a tool, what it prints, and what it reports, where the variable RGO names this program."""
         tool, *words = words.split()
         env = {name: value for name, value in os.environ.items() if name != "RGO"}
+        if rgo:
+            env["RGO"] = rgo
         env.update(PATH=f"{self.top}/bin:{env['PATH']}", PYTHONDONTWRITEBYTECODE="1")
         start = ["sh"] if tool in SHELL else [sys.executable, "-S"]
         streams = {"stdout": subprocess.PIPE, "input": b"rgo: deadlock\n", **streams}
@@ -149,6 +153,27 @@ class Tools(unittest.TestCase):
             with self.subTest(words):
                 self.assertEqual((command.NO_PROGRAM, ""), (status, out))
                 self.assertRegex(err, r"\A[\w-]+: no program is built: run \./rgo run < .*\n\Z")
+
+    def test_without_a_proved_program_the_unproved_one_is_used(self):
+        unproved = self.top / "crates" / "rgo" / "out" / "unproved"
+        unproved.parent.mkdir(parents=True)
+        unproved.write_text("#!/bin/sh\ncat >/dev/null\nexit 1\n")
+        unproved.chmod(0o755)
+        self.addCleanup(shutil.rmtree, unproved.parent)
+        said = "no proved program is built, so this is done by the one of ./rgo --unproved, of which nothing is proved"
+        spent = {"input": b"rgo: pages spent\n"}
+        for words, (status, _, err) in self.run_all(list(UNPROVED), **spent):
+            with self.subTest(words):
+                self.assertEqual((UNPROVED[words], f"{words.split()[0]}: {said}\n"), (status, err))
+        # A program that is named is never replaced by it: so the gate tests the proved one.
+        none = str(self.top / "none")
+        for words, (status, out, err) in self.run_all([*NO_PROGRAM, "examples --check", f"soak --rgo {none}"], rgo=none):
+            with self.subTest(words):
+                self.assertEqual((command.NO_PROGRAM, ""), (status, out))
+                self.assertRegex(err, rf"\A[\w-]+: cannot run {none}: No such file or directory\n\Z")
+        # Nor is the proved program.
+        shutil.copy(unproved, unproved.with_name("rgo"))
+        self.assertEqual((1, "", ""), self.run_tool("rgor a.go"))
 
     def test_a_full_device(self):
         with open("/dev/full", "wb") as full:

@@ -1,4 +1,4 @@
-"""Tests tools/unproved with a toolchain that compiles nothing."""
+"""Tests tools/unproved with a toolchain that compiles nothing, and that the gate tests the proved program."""
 
 import os
 import pathlib
@@ -141,6 +141,25 @@ class Unproved(unittest.TestCase):
     def test_no_toolchain(self):
         self.room.joinpath("a toolchain").rename(self.room / "aside")
         self.assertEqual((127, "unproved: the toolchain's command rt is not on the path\n"), self.compile())
+
+
+class Gate(unittest.TestCase):
+    def test_its_checks_use_the_program_that_it_has_proved(self):
+        with tempfile.TemporaryDirectory() as folder:
+            room = pathlib.Path(folder).resolve()
+            checks = ["examples", "test-rgo", "test-workers", "test-tools"]
+            for name in ["rt", *checks]:
+                path = room / ("bin" if name == "rt" else "tools") / name
+                path.parent.mkdir(exist_ok=True)
+                path.write_text(f'#!/bin/sh\necho {name} $* "$RGO"\n')
+                path.chmod(0o755)
+            room.joinpath(".ci").mkdir()
+            shutil.copy(TOP / ".ci" / "run", room / ".ci" / "run")
+            env = {**os.environ, "PATH": f"{room}/bin:/usr/bin:/bin", "RGO": "another"}
+            ran = subprocess.run([room / ".ci" / "run"], capture_output=True, text=True, env=env, timeout=60, check=True)
+        rgo = room / "crates" / "rgo" / "out" / "rgo"
+        checked = [f"examples --check {rgo}", f"examples {rgo} {rgo}", *(f"{name} {rgo}" for name in checks[1:])]
+        self.assertEqual(["rt ci another", *checked], ran.stdout.splitlines())
 
 
 if __name__ == "__main__":
