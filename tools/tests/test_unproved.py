@@ -18,6 +18,7 @@ kit=$(cd "$(dirname "$0")/.." && pwd)
 echo "$PWD: $*" >>'{room}/called'
 [ -e '{room}/refused' ] && echo "main.rt:1:1: error" >&2 && exit 1
 cat "$kit/c/asan.a" "$kit/c/other.a" "$kit/toolchain/lib/libc" >'{room}/libraries'
+trap 'exit 130' INT
 cd "$TMPDIR" || exit
 "$kit/toolchain/bin/clang" -c -O0 -fsanitize=address "a b" || exit 2
 [ -e '{room}/unlinked' ] || "$kit/toolchain/bin/ld.lld" -m x -o program "a b" || exit 2
@@ -127,6 +128,10 @@ class Unproved(unittest.TestCase):
     def test_a_compiler_that_fails(self):
         self.write("a toolchain/toolchain/bin/clang", "#!/bin/sh\necho 'no such word' >&2\nexit 1\n")
         self.assertEqual((2, "unproved: the toolchain does not compile the program in this way: status 2\nno such word\n"), self.compile())
+
+    def test_an_interrupt_is_no_other_toolchain(self):
+        self.write("a toolchain/toolchain/bin/clang", "#!/bin/sh\nkill -INT $PPID\nexit 1\n")
+        self.assertEqual((130, "unproved: interrupted\n"), self.compile())
 
     def test_a_program_that_does_not_work(self):
         self.write("made", "#!/bin/sh\nexit 5\n")
