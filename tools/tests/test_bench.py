@@ -32,7 +32,7 @@ class Programs(unittest.TestCase):
 
     def test_the_smallest_sizes_print_what_go_printed(self):
         sources = sorted(BENCH.glob("*.go"))
-        self.assertEqual(16, len(sources))
+        self.assertEqual(20, len(sources))
         for source in sources:
             with self.subTest(source.name), open(source, "rb") as text:
                 command = [error_pages.program(), "run", "--page-words", "4096", "--pages", "256"]
