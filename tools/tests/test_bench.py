@@ -1,4 +1,4 @@
-"""Tests the programs of bench/ and the script that measures them."""
+"""Tests the programs of bench/ and the scripts that measure them."""
 
 import os
 import pathlib
@@ -49,7 +49,7 @@ class Programs(unittest.TestCase):
                 self.assertEqual(sizes[0], sizes[1])
 
 
-class Script(unittest.TestCase):
+class Case(unittest.TestCase):
     def setUp(self):
         folder = tempfile.TemporaryDirectory()
         self.addCleanup(folder.cleanup)
@@ -62,20 +62,25 @@ class Script(unittest.TestCase):
         path.chmod(0o755)
         return path
 
-    def bench(self, *words):
-        """Runs the script with nothing on the path but what it needs and what a test has put there."""
+    def script(self, name, *words):
+        """Runs a script with nothing on the path but what it needs and what a test has put there."""
         found = {command: shutil.which(command) for command in ("cat", "cp", "sed", "sh", "sleep")}
         for command, path in {**found, "python3": sys.executable}.items():
             link = self.room / "bin" / command
             link.parent.mkdir(exist_ok=True)
             if not link.is_symlink():
                 link.symlink_to(path)
-        command = [sys.executable, BENCH / "run", "--times", "1", "--sizes", "1", *words]
+        command = [sys.executable, BENCH / name, *words]
         env = {**os.environ, "PATH": f"{self.room}/bin"}
         return subprocess.run(command, capture_output=True, text=True, env=env, timeout=300, check=False)
 
     def rows(self, ran):
         return [[cell.strip() for cell in line.strip("|").split("|")] for line in ran.stdout.splitlines() if line.startswith("| ")][1:]
+
+
+class Script(Case):
+    def bench(self, *words):
+        return self.script("run", "--times", "1", "--sizes", "1", *words)
 
     def test_rgo_alone(self):
         fake = self.write("rgo", FAKE.format(bench=BENCH, status=9))
@@ -148,3 +153,101 @@ class Script(unittest.TestCase):
         fake = self.write("rgo", "#!/bin/sh\nwhile :; do :; done\n")
         ran = self.bench("--rgo", fake, "--seconds", "1", "sieve")
         self.assertEqual((0, ["sieve", "1", "over 1 s"]), (ran.returncode, self.rows(ran)[0][:3]))
+
+
+# Plays the part of rgo: prints the size of a program, after it has counted to a number that depends on that.
+COUNTING = r"""#!/bin/sh
+size=$(sed -n 's/^func size() int { return \([0-9]*\) }$/\1/p')
+case $size in CASES esac
+i=0
+while [ $i -lt $count ]; do i=$((i + 1)); done
+echo $size
+"""
+# Plays the part of a program that Go has compiled: prints the size of which its folder has the name.
+COMPILED = "#!/bin/sh\nfolder=${0%/*}\necho ${folder##*-}\n"
+# Plays the part of yaegi, and fails if the size is 20.
+INTERPRETER = "#!/bin/sh\nfolder=${2%/*}\n[ ${folder##*-} = 20 ] && exit 3\necho ${folder##*-}\n"
+
+
+class Growth(Case):
+    def counting(self, counts):
+        return self.write("rgo", COUNTING.replace("CASES", " ".join(f"{size}) count={count};;" for size, count in counts.items())))
+
+    def growth(self, *words):
+        return self.script("growth", "--times", "1", *words)
+
+    def test_times_and_ratios(self):
+        fake = self.counting({10: 2000, 20: 100_000})
+        ran = self.growth("--rgo", fake, "--sizes", "20,10", "--workers", "1,3", "jobs", "ring")
+        self.assertEqual((0, ""), (ran.returncode, ran.stderr))
+        self.assertTrue(ran.stdout.startswith("| program | goroutines | 1 worker s | ratio | 3 workers s | ratio |\n|---|---|---|---|---|---|\n"))
+        rows = self.rows(ran)
+        self.assertEqual([["jobs", "10"], ["jobs", "20"], ["ring", "10"], ["ring", "20"]], [row[:2] for row in rows])
+        for few, many in (rows[:2], rows[2:]):
+            for at in (2, 4):
+                self.assertRegex(few[at], r"^\d+\.\d{3}$")
+                self.assertGreater(float(many[at]), 2 * float(few[at]))
+                self.assertEqual("", few[at + 1])
+                self.assertGreater(float(many[at + 1]), 2)
+
+    def test_without_words_all_programs_have_three_sizes(self):
+        ran = self.growth("--rgo", self.write("rgo", "#!/bin/sh\ncat >/dev/null\n"))
+        self.assertEqual((0, ""), (ran.returncode, ran.stderr))
+        wanted = [[name, size] for name in ("collect", "jobs", "server", "ring") for size in ("4,000", "8,000", "16,000")]
+        self.assertEqual(wanted, [row[:2] for row in self.rows(ran)])
+
+    def test_peers(self):
+        fake = self.counting({10: 1, 20: 1})
+        self.write("compiled", COMPILED)
+        self.write("bin/go", f"#!/bin/sh\ncp '{self.room}/compiled' \"$3\"\n")
+        self.write("bin/yaegi", INTERPRETER)
+        ran = self.growth("--rgo", fake, "--sizes", "10,20", "--workers", "1", "collect")
+        self.assertEqual((0, ""), (ran.returncode, ran.stderr))
+        self.assertTrue(ran.stdout.startswith("| program | goroutines | 1 worker s | ratio | Go s | ratio | yaegi s | ratio |\n"))
+        few, many = self.rows(ran)
+        self.assertRegex(" ".join(few), r"^collect 10 [\d.]+  [\d.]+  [\d.]+ $")
+        self.assertRegex(" ".join(many), r"^collect 20 [\d.]+ [\d.]+ [\d.]+ [\d.]+ fails with 3 $")
+
+    def test_check_accepts_what_grows_little(self):
+        ran = self.growth("--rgo", self.counting({4000: 9999, 8000: 9999, 99999: 9999}), "--check", "--times", "3", "--workers", "1", "jobs")
+        self.assertEqual((0, ""), (ran.returncode, ran.stderr), ran.stdout)
+        self.assertEqual(["4,000", "8,000", "99,999"], [row[1] for row in self.rows(ran)])
+        self.assertTrue(ran.stdout.endswith(" |\n"))
+
+    def test_check_finds_what_grows_too_much(self):
+        ran = self.growth("--rgo", self.counting({4000: 1, 8000: 100_000, 99999: 1}), "--check", "--workers", "1", "jobs")
+        self.assertEqual((1, ""), (ran.returncode, ran.stderr))
+        self.assertRegex(ran.stdout, r"\|\n\njobs on 1 worker takes [\d.]+ times as long with 8,000 goroutines as with 4,000; 2\.5 is allowed\n\Z")
+
+    def test_check_finds_a_run_that_takes_too_long(self):
+        fake = self.counting({4000: 1, 8000: 1, 99999: 100_000_000})
+        ran = self.growth("--rgo", fake, "--check", "--workers", "2", "--seconds", "1", "ring")
+        self.assertEqual((1, ""), (ran.returncode, ran.stderr))
+        self.assertEqual(["ring", "99,999", "over 1 s", ""], self.rows(ran)[2])
+        self.assertTrue(ran.stdout.endswith("\n\nring with 99,999 goroutines on 2 workers takes over 1 s\n"))
+
+    def test_what_stops_it(self):
+        different = self.write("different", "#!/bin/sh\ncat >/dev/null\necho $7\n")
+        for rgo, status, said in [
+            (self.write("failing", "#!/bin/sh\nexit 9\n"), 1, "growth: ring with 4000 goroutines: rgo on 1 worker fails with 9\n"),
+            (different, 1, "growth: ring with 4000 goroutines prints different things: "),
+            (self.room / "none", 127, f"growth: cannot run {self.room}/none: No such file or directory\n"),
+        ]:
+            with self.subTest(said):
+                ran = self.growth("--rgo", rgo, "ring")
+                self.assertEqual(status, ran.returncode)
+                self.assertTrue(ran.stderr.startswith(said), ran.stderr)
+
+    def test_words(self):
+        for words in (["sieve"], ["--sizes", "0"], ["--sizes", "4,x"], ["--check", "--sizes", "4"], ["--times", "0"], ["--fast"]):
+            with self.subTest(words):
+                ran = self.script("growth", *words)
+                self.assertEqual((64, ""), (ran.returncode, ran.stdout))
+                self.assertIn("bench/growth [--sizes", ran.stderr)
+        ran = self.script("growth", "--help")
+        self.assertEqual((0, ""), (ran.returncode, ran.stderr))
+        self.assertIn("bench/growth [--sizes", ran.stdout)
+
+
+if __name__ == "__main__":
+    unittest.main()
