@@ -219,6 +219,12 @@ class Growth(Case):
         self.assertEqual((1, ""), (ran.returncode, ran.stderr))
         self.assertRegex(ran.stdout, r"\|\n\njobs on 1 worker takes [\d.]+ times as long with 8,000 goroutines as with 4,000; 2\.5 is allowed\n\Z")
 
+    def test_check_measures_a_slow_run_again(self):
+        seen = self.room / "seen"
+        slow_at_first = f"9999; [ -e '{seen}' ] || count=300000; : >'{seen}'"
+        ran = self.growth("--rgo", self.counting({4000: 9999, 8000: slow_at_first, 99999: 9999}), "--check", "--workers", "1", "jobs")
+        self.assertEqual((0, ""), (ran.returncode, ran.stderr), ran.stdout)
+
     def test_check_finds_a_run_that_takes_too_long(self):
         fake = self.counting({4000: 1, 8000: 1, 99999: 100_000_000})
         ran = self.growth("--rgo", fake, "--check", "--workers", "2", "--seconds", "1", "ring")
