@@ -35,7 +35,8 @@ class Soak(unittest.TestCase):
     def test_runs_that_are_alike_are_counted(self):
         ran = self.soak(self.fake(ALIKE), "--seconds", "0.1", "--goroutines", "3")
         self.assertEqual((0, ""), (ran.returncode, ran.stderr))
-        self.assertRegex(ran.stdout, r"(?m)^random +[1-9][0-9]* as on one worker$")
+        for kind in ("random", "sending", "jobs", "ring", "long server"):
+            self.assertRegex(ran.stdout, rf"(?m)^{kind} +[1-9][0-9]* as on one worker$")
 
     def test_a_run_that_differs_is_kept(self):
         for text in (OTHER_PRINT, OTHER_STATUS, OTHER_REPORT, SHUFFLED):
