@@ -196,6 +196,15 @@ class Growth(Case):
         wanted = [[name, size] for name in ("collect", "jobs", "server", "ring") for size in ("4,000", "8,000", "16,000")]
         self.assertEqual(wanted, [row[:2] for row in self.rows(ran)])
 
+    def test_channels_have_room(self):
+        # Prints the channels that are made.
+        fake = self.write("rgo", "#!/bin/sh\nsed -n 's/.*make(\\([^)]*\\)).*/\\1/p' >>\"$0.made\"\n")
+        for room, made in [("0", "chan *request\nchan int\nchan int\n"), ("7", "chan *request, 7\nchan int, 7\nchan int, 7\n")]:
+            with self.subTest(room):
+                self.assertEqual(0, self.growth("--rgo", fake, "--room", room, "--sizes", "10", "--workers", "1", "server").returncode)
+                self.assertEqual(made, self.room.joinpath("rgo.made").read_text())
+                self.room.joinpath("rgo.made").unlink()
+
     def test_peers(self):
         fake = self.counting({10: 1, 20: 1})
         self.write("compiled", COMPILED)
@@ -245,7 +254,7 @@ class Growth(Case):
                 self.assertTrue(ran.stderr.startswith(said), ran.stderr)
 
     def test_words(self):
-        for words in (["sieve"], ["--sizes", "0"], ["--sizes", "4,x"], ["--check", "--sizes", "4"], ["--times", "0"], ["--fast"]):
+        for words in (["sieve"], ["--sizes", "0"], ["--sizes", "4,x"], ["--check", "--sizes", "4"], ["--times", "0"], ["--room", "-1"], ["--fast"]):
             with self.subTest(words):
                 ran = self.script("growth", *words)
                 self.assertEqual((64, ""), (ran.returncode, ran.stdout))
