@@ -1,8 +1,8 @@
 """Programs in which many goroutines wait at one channel, or in a ring, for tools/soak and tools/test-workers. What they
 print does not depend on the order of steps.
 
-A goroutine that is not woken when it should be has a turn in the next check for a deadlock, so most programs end all the
-same. A program with an endless loop beside its other goroutines has no such check: there it would wait for ever.
+A goroutine that is not woken when it should be has a turn in the next check for a deadlock, so most programs end as they
+should nevertheless. There is no such check while an endless loop runs: then such a goroutine waits forever.
 """
 
 import collections
@@ -51,7 +51,32 @@ for k := 0; k < 8; k++ { first <- k }; for k := 0; k < 8; k++ { first <- <-in }
 s := 0; for k := 0; k < 8; k++ { s += <-in }; fmt.Println(s) }
 """
 
-KINDS = {"collect": COLLECT, "jobs": JOBS, "server": SERVER, "ring": RING}
+# As many send to one channel as receive from it.
+EXCHANGE = """\
+func give(c chan int, k int) { c <- worked(k) }
+func take(c, results chan int) { results <- <-c }
+func main() { c := make(chan int, ROOM); results := make(chan int, ROOM); LOOP
+for k := 0; k < COUNT; k++ { go give(c, k); go take(c, results) }
+s := 0; for k := 0; k < COUNT; k++ { s += <-results }; fmt.Println(s) }
+"""
+
+# Each takes a lock three times. That is a channel with room for one: whoever has sent to it has the lock, and gives it back by a receive.
+LOCK = """\
+func child(lock chan bool, s []int, c chan int, k int) { for i := 0; i < 3; i++ { lock <- true; s[0] += worked(k); <-lock }; c <- 1 }
+func main() { lock := make(chan bool, 1); s := make([]int, 1); c := make(chan int, ROOM); LOOP
+for k := 0; k < COUNT; k++ { go child(lock, s, c, k) }
+for k := 0; k < COUNT; k++ { <-c }; fmt.Println(s[0]) }
+"""
+
+# All wait for a close.
+CLOSE = """\
+func child(gate, c chan int, k int) { c <- <-gate + worked(k) }
+func main() { gate := make(chan int, ROOM); c := make(chan int, ROOM); LOOP
+for k := 0; k < COUNT; k++ { go child(gate, c, k) }; worked(6); close(gate)
+s := 0; for k := 0; k < COUNT; k++ { s += <-c }; fmt.Println(s) }
+"""
+
+KINDS = {"collect": COLLECT, "jobs": JOBS, "server": SERVER, "ring": RING, "exchange": EXCHANGE, "lock": LOCK, "close": CLOSE}
 
 # A way in which these programs differ: the room in their channels; how many numbers a goroutine computes between two
 # operations on channels, at most six times as many; and whether there is an endless loop beside them.
