@@ -23,7 +23,7 @@ crew_end_of (Stopped limit) = ending.Limit limit
 -- why a turn was over: whatever ends the run is one variant, which says how
 abbrev pub why_of : TableTurnEnd → Why
 why_of stop.Went = why.Went
-why_of (stop.Blocked at) = why.Blocked
+why_of (stop.Blocked at operation) = why.Blocked
 why_of (stop.Lost at) = why.Lost
 why_of stop.Ended = why.Ended
 why_of (stop.Stopped mark) = why.Over (crew_end_of mark)

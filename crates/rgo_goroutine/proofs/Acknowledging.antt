@@ -38,7 +38,7 @@ has_next r a stands at offers nothing =
     ∙ (ap (λ (code : Code). current code (bare x.w)) (sym stands.shows.code) ∙ x.cur))
 
 -- there is room for what follows it, and its body knows that it owes nothing before it
-module _ (r : Run) (old : Goroutine) (d : Body) (t : Turning) (goes : MayMakeInstructions r old t.left) (noted : t.changed.count < 8)
+module _ (r : Run) (old : Goroutine) (d : Body) (t : Turning) (goes : MayMakeInstructions r old t.left) (noted : t.changed.count < 6)
     (stays : StillShows r.program old.actor.body d)
     (same : d ≡ record old.actor.body { queue = d.queue; is_expanded = d.is_expanded }) where
   abbrev pub mid : Goroutine

@@ -5,7 +5,7 @@ use Rattle.rgo_acts.specs.Runs.{Run}
 use Rattle.rgo_goroutine.specs.Acting.{GoroutineActs}
 use Rattle.rgo_goroutine.specs.Instructions.{MakesInstruction}
 use Rattle.rgo_goroutine.specs.declared.goroutine.Goroutine.{Goroutine}
-use Rattle.rgo_goroutine.specs.declared.turning.Changed.{Changed}
+use Rattle.rgo_goroutine.specs.declared.waking.Changed.{Changed}
 use Rattle.rgo_goroutine.specs.declared.turning.TableTurnEnd.{TableTurnEnd}
 use Rattle.rgo_goroutine.specs.declared.turning.Turning.{Turning}
 use Rattle.rgo_goroutine.proofs.Concluding.{no_answer}
@@ -62,7 +62,7 @@ module _ (r : Run) (old mid new : Goroutine) (t v u : Turning) (x : Continues r 
   pub halts_then : (why : TableTurnEnd) → GoroutineActs r mid new v u (Some why) → MakesInstruction r old new t u (Some why)
   halts_then why y = halts r old new t u why (acts_then r old mid new t v u (Some why) x.acts y)
 
-  pub room_then : t.changed.count < 8 → v.changed.count < 8
+  pub room_then : t.changed.count < 6 → v.changed.count < 6
   room_then room = let c = x.changed in omega (arith, c, room)
 
   pub made_then : (answer : Option TableTurnEnd) → MakesInstruction r mid new v u answer → MakesInstruction r old new t u answer

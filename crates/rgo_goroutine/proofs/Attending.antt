@@ -40,7 +40,7 @@ pub record HasAttendedSome (r : Run) (old go : Goroutine) (t u : Turning) : Type
   pub rests : go.actor.body.side ≡ AtRest
   pub expanded : go.actor.body.is_expanded ≡ old.actor.body.is_expanded
 
-pub none_yet : (r : Run) (old : Goroutine) (t : Turning) → MayMakeInstructions r old t.left → t.changed.count < 8 → old.actor.body.side ≡ AtRest
+pub none_yet : (r : Run) (old : Goroutine) (t : Turning) → MayMakeInstructions r old t.left → t.changed.count < 6 → old.actor.body.side ≡ AtRest
     → HasAttendedSome r old old t t
 none_yet r old t goes noted rests = record {
   acts = acts_none r old t goes (omega (arith, noted));

@@ -29,7 +29,7 @@ use Rattle.rgo_goroutine.proofs.Keeping.{IsSame}
 use Rattle.rgo_goroutine.proofs.Lifting.{goes_as, moved_as, moves}
 
 -- nothing was made, printed or started
-same_acts : (r : Run) (old new : Goroutine) (t u : Turning) → MayMakeInstructions r old t.left → t.changed.count < 8 → Counts t u 0 0 → IsSame old new
+same_acts : (r : Run) (old new : Goroutine) (t u : Turning) → MayMakeInstructions r old t.left → t.changed.count < 6 → Counts t u 0 0 → IsSame old new
     → act.ActorActed r old.actor new.actor 0 [] [] → GoroutineActs r old new t u None
 same_acts r old new t u goes noted counts same acted = record {
   acted = record {
@@ -48,7 +48,7 @@ same_acts r old new t u goes noted counts same acted = record {
 }
 
 -- the run is over after that
-pub same_ends : (r : Run) (old mid new : Goroutine) (t u : Turning) (why : TableTurnEnd) → MayMakeInstructions r old t.left → t.changed.count < 8
+pub same_ends : (r : Run) (old mid new : Goroutine) (t u : Turning) (why : TableTurnEnd) → MayMakeInstructions r old t.left → t.changed.count < 6
     → Counts t u 0 0 → IsSame old mid → act.ActorActed r old.actor mid.actor 0 [] [] → EndsIn r mid new 0 why
     → MakesInstruction r old new t u (Some why)
 same_ends r old mid new t u why goes noted counts same acted ends =

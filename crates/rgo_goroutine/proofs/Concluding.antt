@@ -17,6 +17,7 @@ use Rattle.rgo_goroutine.specs.declared.goroutine.Goroutine.{Goroutine}
 use Rattle.rgo_goroutine.specs.declared.turning.TableTurnEnd.{TableTurnEnd}
 use Rattle.rgo_goroutine.specs.declared.turning.TableTurnEnd.TheVariants as stop
 use Rattle.rgo_goroutine.specs.declared.turning.Turning.{Turning}
+use Rattle.rgo_goroutine.specs.declared.waking.OperationKind.{OperationKind}
 use Rattle.rgo_goroutine.proofs.Lifting.{ends_after, ends_by, goes_as, goes_on, moved_as, stops}
 
 -- the turn has n instructions less, and `noted` channels more in its list
@@ -58,7 +59,7 @@ no_answer why e = cc
 
 -- ---- the actor has acted
 
-module _ (r : Run) (old : Goroutine) (b : Actor) (t u : Turning) (goes : MayMakeInstructions r old t.left) (noted : t.changed.count < 8) where
+module _ (r : Run) (old : Goroutine) (b : Actor) (t u : Turning) (goes : MayMakeInstructions r old t.left) (noted : t.changed.count < 6) where
   -- an instruction is made, or a channel is changed
   pub made : (n m : ℕ) → act.ActorActed r old.actor b n [] [] → Counts t u n m → 0 < n + m → m ≤ 1
       → MakesInstruction r old (record old { actor = b }) t u None
@@ -105,7 +106,7 @@ module _ (r : Run) (old : Goroutine) (b : Actor) (t u : Turning) (goes : MayMake
   })
 
 -- the run is over
-module _ (r : Run) (old new : Goroutine) (t u : Turning) (goes : MayMakeInstructions r old t.left) (noted : t.changed.count < 8) where
+module _ (r : Run) (old new : Goroutine) (t u : Turning) (goes : MayMakeInstructions r old t.left) (noted : t.changed.count < 6) where
   pub ended : (n : ℕ) (why : TableTurnEnd) → EndsIn r old new n why → Counts t u n 0 → MakesInstruction r old new t u (Some why)
   ended n why e counts = record {
     acts = ends_by r old new t u goes n why e counts.left
@@ -159,11 +160,12 @@ module _ (r : Run) (first go : Goroutine) (t u : Turning) (n : ℕ) (answer : Ta
       subst (λ (g : Goroutine). MakesInstruction r first g t u None) (sym has.rest)
       (made r first go.actor t u has.goes has.noted 0 1 (talks_as (talked.Offered at) is).acted counts (omega arith) (omega arith))
 
-  pub talk_waits : (place : Option ℕ) → answer ≡ talked.Waits place → u ≡ t → MakesInstruction r first go t u (Some (stop.Blocked place))
-  talk_waits place is same =
+  pub talk_waits : (place : Option ℕ) (operation : OperationKind) → answer ≡ talked.Waits place → u ≡ t
+      → MakesInstruction r first go t u (Some (stop.Blocked place operation))
+  talk_waits place operation is same =
       let w = talks_as (talked.Waits place) is in
-      subst (λ (g : Goroutine). MakesInstruction r first g t u (Some (stop.Blocked place))) (sym has.rest)
-      (unmoved r first go.actor t u has.goes has.noted (stop.Blocked place) w.acted w.unmoved (w.acted.went.first, w.waits) same)
+      subst (λ (g : Goroutine). MakesInstruction r first g t u (Some (stop.Blocked place operation))) (sym has.rest)
+      (unmoved r first go.actor t u has.goes has.noted (stop.Blocked place operation) w.acted w.unmoved (w.acted.went.first, w.waits) same)
 
   pub talk_lost : (at : ℕ) → answer ≡ talked.Lost at → u ≡ t → MakesInstruction r first go t u (Some (stop.Lost at))
   talk_lost at is same =

@@ -20,7 +20,7 @@ use Rattle.rgo_goroutine.proofs.Joining.{acts_then, instructs_then, near_acts}
 use Rattle.rgo_goroutine.proofs.Lifting.{goes_on, stops}
 
 -- it has come near, and what it does cannot be counted
-pub near_halts : (r : Run) (old mid : Goroutine) (t : Turning) → IsNear r old mid t.left → t.changed.count < 8
+pub near_halts : (r : Run) (old mid : Goroutine) (t : Turning) → IsNear r old mid t.left → t.changed.count < 6
     → MakesInstruction r old mid t t (Some stop.NoMemory)
 near_halts r old mid t near noted =
     let acts = near_acts r old mid t near (omega (arith, noted)) in
@@ -31,12 +31,12 @@ near_halts r old mid t near noted =
 
 -- it has come near, and then makes the instruction
 pub near_then : (r : Run) (old mid new : Goroutine) (t u : Turning) (answer : Option TableTurnEnd) → IsNear r old mid t.left
-    → t.changed.count < 8 → MakesInstruction r mid new t u answer → MakesInstruction r old new t u answer
+    → t.changed.count < 6 → MakesInstruction r mid new t u answer → MakesInstruction r old new t u answer
 near_then r old mid new t u answer near noted y =
     instructs_then r old mid new t t u answer (near_acts r old mid t near (omega (arith, noted))) (omega arith) y
 
 pub can_act : (r : Run) (old mid : Goroutine) (next : Next) (t : Turning) → GoroutineIsAt r old next t.left → IsNear r old mid t.left
-    → old.actor.body.side ≡ AtRest → CanCountMore r mid → t.changed.count < 8 → CanAct r mid next t
+    → old.actor.body.side ≡ AtRest → CanCountMore r mid → t.changed.count < 6 → CanAct r mid next t
 can_act r old mid next t at near rests counts noted = record {
   at = record {
     goes = near.goes;
@@ -67,7 +67,7 @@ unless r old b next t u answer (Err x) can did ok err =
     (refused r old b t u can.at.goes can.noted did (only_told t u e.1))
 
 -- it has come near, and then its actor has acted
-module _ (r : Run) (old mid : Goroutine) (b : Actor) (t u : Turning) (near : IsNear r old mid t.left) (noted : t.changed.count < 8) where
+module _ (r : Run) (old mid : Goroutine) (b : Actor) (t u : Turning) (near : IsNear r old mid t.left) (noted : t.changed.count < 6) where
   pub near_goes_on : act.ActorActed r mid.actor b 0 [] [] → Counts t u 0 0 → GoroutineActs r old (record mid { actor = b }) t u None
   near_goes_on acted counts =
       acts_then r old mid (record mid { actor = b }) t t u None (near_acts r old mid t near (omega (arith, noted)))
@@ -86,7 +86,7 @@ module _ (r : Run) (old mid : Goroutine) (b : Actor) (t u : Turning) (near : IsN
       counts.moved why by)
 
 -- the same, where nothing has moved by then
-pub near_rests : (r : Run) (old mid : Goroutine) (b : Actor) (t : Turning) → IsNear r old mid t.left → t.changed.count < 8 → (why : TableTurnEnd)
+pub near_rests : (r : Run) (old mid : Goroutine) (b : Actor) (t : Turning) → IsNear r old mid t.left → t.changed.count < 6 → (why : TableTurnEnd)
     (acted : act.ActorActed r mid.actor b 0 [] []) → act.IsUnmoved r.setup mid.actor b acted.es
     → StopsBy r mid (record mid { actor = b }) acted.es why → GoroutineActs r old (record mid { actor = b }) t t (Some why)
 near_rests r old mid b t near noted why acted rests by =

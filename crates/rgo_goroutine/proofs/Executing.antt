@@ -21,14 +21,14 @@ use Rattle.rgo_goroutine.proofs.Resting.{acts_moved, goes_moved, is_over, put_on
 -- ---- the turn first remembers that something may move
 
 module _ (r : Run) (old : Goroutine) (t v : Turning) (e : v ≡ record t { moved = true }) (goes : MayMakeInstructions r old t.left)
-    (noted : t.changed.count < 8) where
+    (noted : t.changed.count < 6) where
   pub told_goes : MayMakeInstructions r old v.left
   told_goes = goes_moved r old t v e goes
 
   pub told_moved : v.moved ≡ true
   told_moved = ap (λ (x : Turning). x.moved) e
 
-  pub told_within : v.changed.count ≤ 8
+  pub told_within : v.changed.count ≤ 6
   told_within = let c = ap (λ (x : Turning). x.changed.count) e in omega (arith, c, noted)
 
   -- nothing has happened after that

@@ -48,7 +48,7 @@ module _ (r : Run) (go : Goroutine) (next : Next) (t : Turning) (can : CanAct r 
     did = did;
   }
 
-pub talked_to : (r : Run) (go : Goroutine) (next : Next) (t : Turning) → GoroutineIsAt r go next t.left → t.changed.count < 8 → (b : Actor)
+pub talked_to : (r : Run) (go : Goroutine) (next : Next) (t : Turning) → GoroutineIsAt r go next t.left → t.changed.count < 6 → (b : Actor)
     (talked : Talked) → Talks r go.actor b 1 talked → HasTalked r go (record go { actor = b }) t 1 talked
 talked_to r go next t at noted b talked talks = record {
   goes = at.goes;

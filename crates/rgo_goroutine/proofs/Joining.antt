@@ -97,7 +97,7 @@ module _ (r : Run) (a b c : Goroutine) where
         first ∙ same,
         inr (end_more r.setup (number_of a.actor.seat.me) (record_now r c) xs es (subst (λ g. FoundEnd g es) grew.same end)),
       )
-      its (stop.Blocked at) (first, waits) = (
+      its (stop.Blocked at operation) (first, waits) = (
         first ∙ same,
         waits_right r.setup (number_of a.actor.seat.me) (record_now r c) xs es at
             (subst (λ g. WaitsAtChannel r.setup g (record_now r c) es at) grew.same waits),
@@ -136,7 +136,7 @@ module _ (r : Run) (a b c : Goroutine) where
   }
 
 -- it has come near
-pub near_acts : (r : Run) (a b : Goroutine) (t : Turning) → IsNear r a b t.left → t.changed.count ≤ 8 → GoroutineActs r a b t t None
+pub near_acts : (r : Run) (a b : Goroutine) (t : Turning) → IsNear r a b t.left → t.changed.count ≤ 6 → GoroutineActs r a b t t None
 near_acts r a b t near within = record {
   acted = record {
     n = 0;

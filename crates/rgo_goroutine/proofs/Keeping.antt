@@ -24,7 +24,7 @@ pub record IsSame (old new : Goroutine) : Type 0 where
   pub number : new.number ≡ old.number
   pub first : new.first ≡ old.first
 
-pub same_halts : (r : Run) (old new : Goroutine) (t u : Turning) → MayMakeInstructions r old t.left → t.changed.count < 8 → IsSame old new
+pub same_halts : (r : Run) (old new : Goroutine) (t u : Turning) → MayMakeInstructions r old t.left → t.changed.count < 6 → IsSame old new
     → (acted : act.ActorActed r old.actor new.actor 0 [] []) → Counts t u 0 0 → MakesInstruction r old new t u (Some stop.NoMemory)
 same_halts r old new t u goes noted same acted counts = record {
   acts = record {
@@ -51,7 +51,7 @@ much_concludes : (r : Run) (old new : Goroutine) (es : List Access) (answer : Op
 much_concludes r old new es None same much = same
 much_concludes r old new es (Some why) same (is, much) = subst (StopsBy r old new es) (sym is) (same, inl much)
 
-pub printed_on : (r : Run) (old new : Goroutine) (t u : Turning) → MayMakeInstructions r old t.left → t.changed.count < 8 → (print : Print)
+pub printed_on : (r : Run) (old new : Goroutine) (t u : Turning) → MayMakeInstructions r old t.left → t.changed.count < 6 → (print : Print)
     → new.prints.items ≡ old.prints.items ++ print ∷ [] → new.children.items ≡ old.children.items → new.number ≡ old.number
     → new.first ≡ old.first → act.ActorActed r old.actor new.actor 1 (drawn_by print ∷ []) [] → Counts t u 1 0 → (answer : Option TableTurnEnd)
     → MatchOption answer ⊤ (λ why. (why ≡ stop.Went) × HoldsMuch new) → MakesInstruction r old new t u answer
@@ -80,7 +80,7 @@ all_with : (r : Run) (children : List Child) (child : Child) → AreChildren r c
 all_with r [] child all is = (is, tt)
 all_with r (c ∷ cs) child all is = (all.0, all_with r cs child all.1 is)
 
-pub started_on : (r : Run) (old new : Goroutine) (t u : Turning) → MayMakeInstructions r old t.left → t.changed.count < 8 → (child : Child)
+pub started_on : (r : Run) (old new : Goroutine) (t u : Turning) → MayMakeInstructions r old t.left → t.changed.count < 6 → (child : Child)
     → IsChild r child → new.prints.items ≡ old.prints.items → new.children.items ≡ old.children.items ++ child ∷ []
     → new.number ≡ old.number → new.first ≡ old.first → act.ActorActed r old.actor new.actor 1 [] (child.number ∷ []) → Counts t u 1 0
     → MakesInstruction r old new t u None

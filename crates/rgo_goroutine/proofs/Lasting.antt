@@ -107,7 +107,7 @@ module _ (r : Run) (old mid new : Goroutine) (u : Turning) (slice n : ℕ) (xs y
     same_first same,
     inr (inr (end.0, end.1, found_left g xs ys EndRun clock_at end.0 end.2)),
   )
-  stops_last (stop.Blocked at) (same, waits) = (
+  stops_last (stop.Blocked at operation) (same, waits) = (
     same_first same,
     subst (λ (d : Record). WaitsAtChannel T g d (xs ++ ys) at) (sym after) (waits_last T g c xs ys at waits),
   )

@@ -52,7 +52,7 @@ module _ (r : Run) (old new : Goroutine) (n : ℕ) (draws : List Drawn) (starts 
 -- the actor has acted, and nothing else of the goroutine has changed
 module _ (r : Run) (old : Goroutine) (b : Actor) (t u : Turning) (goes : MayMakeInstructions r old t.left) (n : ℕ)
     (acted : act.ActorActed r old.actor b n [] []) (left : t.left ≡ u.left + n) (noted : t.changed.count ≤ u.changed.count)
-    (within : u.changed.count ≤ 8) (moved : u.moved ≡ true) where
+    (within : u.changed.count ≤ 6) (moved : u.moved ≡ true) where
   abbrev pub its : Goroutine
   its = record old { actor = b }
 
@@ -109,7 +109,7 @@ ends_after r old b new n why acted e = record {
 }
 
 module _ (r : Run) (old new : Goroutine) (t u : Turning) (goes : MayMakeInstructions r old t.left) (n : ℕ) (why : TableTurnEnd) (e : EndsIn r old new n why)
-    (left : t.left ≡ u.left + n) (noted : t.changed.count ≤ u.changed.count) (within : u.changed.count ≤ 8) (moved : u.moved ≡ true) where
+    (left : t.left ≡ u.left + n) (noted : t.changed.count ≤ u.changed.count) (within : u.changed.count ≤ 6) (moved : u.moved ≡ true) where
   end_moved : GoroutineMoved r old new n e.ended.es
   end_moved = record {
     grew = e.ended.grew;

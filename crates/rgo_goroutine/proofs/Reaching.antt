@@ -78,7 +78,7 @@ after_ok (Err x) P said ok = let e : false ≡ true = ok in absurd (cc e)
 -- ---- before the instruction: it has forgotten a channel if it is at none, and makes room for what it owes after it
 
 module _ (r : Run) (old : Goroutine) (b : Actor) (t : Turning) (goes : MayMakeInstructions r old t.left)
-    (some : (0 < t.left) × (t.changed.count < 8)) (k : IsKept old.actor b) (acted : act.ActorActed r old.actor b 0 [] []) where
+    (some : (0 < t.left) × (t.changed.count < 6)) (k : IsKept old.actor b) (acted : act.ActorActed r old.actor b 0 [] []) where
   kept_acts : GoroutineActs r old (record old { actor = b }) t t None
   kept_acts =
       put_on r old b t goes (record { seat = k.seat; behind = k.behind; stands = acted.stands })

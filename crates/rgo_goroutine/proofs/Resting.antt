@@ -106,13 +106,13 @@ module _ (r : Run) (old : Goroutine) (b : Actor) (t : Turning) (goes : MayMakeIn
     still = λ e. (e, refl, put_rests);
   }
 
-  pub put_on : t.changed.count ≤ 8 → GoroutineActs r old its t t None
+  pub put_on : t.changed.count ≤ 6 → GoroutineActs r old its t t None
   put_on within = record { acted = put_acted; goes = put_goes; noted = within; concludes = put_first }
 
-  pub put_stops : (why : TableTurnEnd) → StopsBy r old its [] why → t.changed.count ≤ 8 → GoroutineActs r old its t t (Some why)
+  pub put_stops : (why : TableTurnEnd) → StopsBy r old its [] why → t.changed.count ≤ 6 → GoroutineActs r old its t t (Some why)
   put_stops why by within = record { acted = put_acted; goes = put_goes; noted = within; concludes = by }
 
-  pub put_halts : t.changed.count < 8 → MakesInstruction r old its t t (Some stop.NoMemory)
+  pub put_halts : t.changed.count < 6 → MakesInstruction r old its t t (Some stop.NoMemory)
   put_halts noted = record {
     acts = put_stops stop.NoMemory put_first (omega (arith, noted));
     progress = λ e. absurd (no_answer stop.NoMemory e);

@@ -19,7 +19,7 @@ use Rattle.rgo_goroutine.specs.Acting.{GoroutineActs, MayMakeInstructions, HasCa
 use Rattle.rgo_goroutine.specs.Goroutines.{IsOf, ungathered_prints, numbers, record_of_goroutine}
 use Rattle.rgo_goroutine.specs.Turns.{HasTurned, TurnChangesNothing, IsTidy, TurnStops, GoroutineTurns}
 use Rattle.rgo_goroutine.specs.declared.goroutine.Goroutine.{Goroutine}
-use Rattle.rgo_goroutine.specs.declared.turning.Changed.{Changed}
+use Rattle.rgo_goroutine.specs.declared.waking.Changed.{Changed}
 use Rattle.rgo_goroutine.specs.declared.turning.TableTurnEnd.{TableTurnEnd}
 use Rattle.rgo_goroutine.specs.declared.turning.TableTurnEnd.TheVariants as stop
 use Rattle.rgo_goroutine.specs.declared.turning.Turned.{Turned}
@@ -48,7 +48,7 @@ goes_of r go slice of room =
 
 -- ---- nothing done yet
 
-pub acts_none : (r : Run) (go : Goroutine) (t : Turning) → MayMakeInstructions r go t.left → t.changed.count ≤ 8 → GoroutineActs r go go t t None
+pub acts_none : (r : Run) (go : Goroutine) (t : Turning) → MayMakeInstructions r go t.left → t.changed.count ≤ 6 → GoroutineActs r go go t t None
 acts_none r go t goes within = record {
   acted = record {
     n = 0;
@@ -79,7 +79,7 @@ acts_none r go t goes within = record {
 
 over_by : (r : Run) (old new : Goroutine) (u : Turning) (es : List Access) (why : TableTurnEnd) → StopsBy r old new es why → IsOverFor r old new u es why
 over_by r old new u es stop.Went (first, end) = (first, inr end)
-over_by r old new u es (stop.Blocked at) by = by
+over_by r old new u es (stop.Blocked at operation) by = by
 over_by r old new u es (stop.Lost at) by = by
 over_by r old new u es stop.Ended by = by
 over_by r old new u es (stop.Stopped mark) by = by
@@ -93,7 +93,7 @@ stopped r old new t u why acts = record {
   over = over_by r old new u acts.acted.es why acts.concludes;
 }
 
-pub used_up : (r : Run) (old new : Goroutine) (t u : Turning) → GoroutineActs r old new t u None → (u.left ≡ 0) ⊎ (u.changed.count ≡ 8)
+pub used_up : (r : Run) (old new : Goroutine) (t u : Turning) → GoroutineActs r old new t u None → (u.left ≡ 0) ⊎ (u.changed.count ≡ 6)
     → Proceeds r old new t u stop.Went
 used_up r old new t u acts full = record { acted = acts.acted; goes = acts.goes; over = (acts.concludes, inl full) }
 

@@ -68,15 +68,15 @@ SameFirst r old new = (record_now r new).clock.first ≡ (record_now r old).cloc
 
 -- ---- what an act came to
 
--- How much the turn may still do: instructions, and entries in its list of changed channels. Each act that continues lowers it, so the loop
+-- How much the turn may still do: instructions, and entries in its list of changes. Each act that continues lowers it, so the loop
 -- of a turn ends.
 abbrev pub room_in_turn : Turning → ℕ
-room_in_turn t = t.left + (8 - t.changed.count)
+room_in_turn t = t.left + (6 - t.changed.count)
 
 -- why the turn is over after it; es are the accesses of the act
 abbrev pub StopsBy : (r : Run) (old new : Goroutine) (es : List Access) → TableTurnEnd → Type 0
 StopsBy r old new es stop.Went = SameFirst r old new × (HoldsMuch new ⊎ FoundEnd (number_of old.actor.seat.me) es)
-StopsBy r old new es (stop.Blocked at) =
+StopsBy r old new es (stop.Blocked at operation) =
     SameFirst r old new × WaitsAtChannel r.setup (number_of old.actor.seat.me) (record_now r new) es at
 StopsBy r old new es (stop.Lost at) =
     SameFirst r old new × Loses r.setup (number_of old.actor.seat.me) (record_now r new) es at
@@ -94,7 +94,7 @@ ActConcludes r old new es (Some why) = StopsBy r old new es why
 pub record GoroutineActs (r : Run) (old new : Goroutine) (t u : Turning) (answer : Option TableTurnEnd) : Type 0 where
   pub acted : GoroutineActed r old new t u
   pub goes : MayMakeInstructions r new u.left
-  pub noted : u.changed.count ≤ 8
+  pub noted : u.changed.count ≤ 6
   pub concludes : ActConcludes r old new acted.es answer
 
 -- the turn may do less than before
@@ -103,12 +103,12 @@ TurnProgresses t u = room_in_turn u < room_in_turn t
 
 -- ---- several acts
 
--- The turn was over for this reason, by its last act, or since all its instructions were made, or since its list of changed channels is
+-- The turn was over for this reason, by its last act, or since all its instructions were made, or since its list of changes is
 -- full.
 abbrev pub IsOverFor : (r : Run) (old new : Goroutine) (u : Turning) (es : List Access) → TableTurnEnd → Type 0
 IsOverFor r old new u es stop.Went =
-    SameFirst r old new × (((u.left ≡ 0) ⊎ (u.changed.count ≡ 8)) ⊎ (HoldsMuch new ⊎ FoundEnd (number_of old.actor.seat.me) es))
-IsOverFor r old new u es (stop.Blocked at) = StopsBy r old new es (stop.Blocked at)
+    SameFirst r old new × (((u.left ≡ 0) ⊎ (u.changed.count ≡ 6)) ⊎ (HoldsMuch new ⊎ FoundEnd (number_of old.actor.seat.me) es))
+IsOverFor r old new u es (stop.Blocked at operation) = StopsBy r old new es (stop.Blocked at operation)
 IsOverFor r old new u es (stop.Lost at) = StopsBy r old new es (stop.Lost at)
 IsOverFor r old new u es stop.Ended = StopsBy r old new es stop.Ended
 IsOverFor r old new u es (stop.Stopped mark) = StopsBy r old new es (stop.Stopped mark)

@@ -34,9 +34,9 @@ pub record TurnExamples : Type 0 where
   pub no_access : (r : Run) (go : Goroutine) (n : ℕ) (es : List Access) → GoroutineTurns r go go n es → ⊥
   -- and no more instructions than it was given
   pub too_many : (r : Run) (old new : Goroutine) (slice : ℕ) (turned : Turned) → slice < turned.steps → HasTurned r old new slice turned → ⊥
-  -- it has made all its instructions, or its list of changed channels is full
+  -- it has made all its instructions, or its list of changes is full
   pub used_up : (r : Run) (go : Goroutine) → TurnStops r go go 10 10 0 [] stop.Went
-  pub told_all : (r : Run) (go : Goroutine) → TurnStops r go go 10 3 8 [] stop.Went
+  pub told_all : (r : Run) (go : Goroutine) → TurnStops r go go 10 3 6 [] stop.Went
   -- or it has printed much
   pub printed_much : (r : Run) (go : Goroutine) → 65536 ≤ printed_byte_count go.prints.items → TurnStops r go go 10 3 0 [] stop.Went
   -- it has made fewer, has printed little, and nothing ended

@@ -106,7 +106,7 @@ pub record CanAct (r : Run) (go : Goroutine) (next : Next) (t : Turning) : Type 
   pub rests : go.actor.body.side ≡ AtRest
   pub counts : CanCountMore r go
   pub near : go.actor.behind < 4611686018427387904
-  pub noted : t.changed.count < 8
+  pub noted : t.changed.count < 6
 
 -- The act was made, and the turn may do less than before if it continues.
 pub record MakesInstruction (r : Run) (old new : Goroutine) (t u : Turning) (answer : Option TableTurnEnd) : Type 0 where
@@ -119,7 +119,7 @@ pub record MakesInstruction (r : Run) (old new : Goroutine) (t u : Turning) (ans
 pub record HasCome (r : Run) (first go : Goroutine) (t : Turning) : Type 0 where
   pub goes : MayMakeInstructions r first t.left
   pub some : 0 < t.left
-  pub noted : t.changed.count < 8
+  pub noted : t.changed.count < 6
   pub rest : go ≡ record first { actor = go.actor }
 
 -- by an instruction that may trap
@@ -131,7 +131,7 @@ pub record HasComeTo (r : Run) (first go : Goroutine) (t : Turning) (done : Resu
 pub record HasTalked (r : Run) (first go : Goroutine) (t : Turning) (n : ℕ) (talked : Talked) : Type 0 where
   pub goes : MayMakeInstructions r first t.left
   pub some : 0 < t.left
-  pub noted : t.changed.count < 8
+  pub noted : t.changed.count < 6
   pub few : n ≤ 1
   pub rest : go ≡ record first { actor = go.actor }
   pub talks : Talks r first.actor go.actor n talked

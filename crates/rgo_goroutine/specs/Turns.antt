@@ -61,12 +61,12 @@ LacksFor shortage.Pages T g c es = LacksPage T g c es
 LacksFor shortage.Regions T g c es = LacksSlot T g c es
 LacksFor shortage.ObjectSize T g c es = ⊥
 
--- Why the turn was over. It has made n instructions, at most `slice`, and its list of changed channels has `changed` of its eight
+-- Why the turn was over. It has made n instructions, at most `slice`, and its list of changes has `changed` of its six
 -- entries. es are the accesses that its seat has seen since.
 abbrev pub TurnStops : (r : Run) (old new : Goroutine) (slice n changed : ℕ) (es : List Access) → TableTurnEnd → Type 0
 TurnStops r old new slice n changed es stop.Went =
-    SameFirst r old new × (((n ≡ slice) ⊎ (changed ≡ 8)) ⊎ (HoldsMuch new ⊎ FoundEnd (number_of old.actor.seat.me) es))
-TurnStops r old new slice n changed es (stop.Blocked at) =
+    SameFirst r old new × (((n ≡ slice) ⊎ (changed ≡ 6)) ⊎ (HoldsMuch new ⊎ FoundEnd (number_of old.actor.seat.me) es))
+TurnStops r old new slice n changed es (stop.Blocked at operation) =
     SameFirst r old new × WaitsAtChannel r.setup (number_of old.actor.seat.me) (record_of_goroutine r.setup new) es at
 TurnStops r old new slice n changed es (stop.Lost at) =
     SameFirst r old new × Loses r.setup (number_of old.actor.seat.me) (record_of_goroutine r.setup new) es at

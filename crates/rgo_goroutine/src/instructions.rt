@@ -27,6 +27,7 @@ ghost use Rattle.rgo_goroutine.specs.declared.turning.TableTurnEnd.TheVariants a
 
 use crate::goroutine::{Child, Goroutine, MOST_PRINTED, hold_much};
 use crate::turning::{TableTurnEnd, Turning};
+use crate::waking::OperationKind;
 use rgo_acts::actors::Actor;
 use rgo_acts::body::{Next, NoCall};
 use rgo_acts::channels::{self, Talked};
@@ -55,7 +56,7 @@ impl Goroutine {
     ) -> Option<TableTurnEnd>
         requires goes { MayMakeInstructions run.now self.old turning.old.left }
         requires pages { TableHasPages run.now }
-        requires some { (0 < turning.old.left) × (turning.old.changed.count < 8) }
+        requires some { (0 < turning.old.left) × (turning.old.changed.count < 6) }
         requires empty { self.old.actor.body.queue.duties ≡ [] }
         requires expanded { self.old.actor.body.is_expanded ≡ true }
         requires none { OffersNothing self.old.actor.body }
@@ -109,7 +110,7 @@ impl Goroutine {
     ) -> Option<TableTurnEnd>
         requires at { GoroutineIsAt run.now self.old next.now turning.old.left }
         requires pages { TableHasPages run.now }
-        requires noted { turning.old.changed.count < 8 }
+        requires noted { turning.old.changed.count < 6 }
         requires rests { self.old.actor.body.side ≡ side.AtRest }
         requires elsewhere { IsElsewhere (operation_of next.now.op) }
         ensures { MakesInstruction run.now self.old self.new turning.old turning.new result }
@@ -277,14 +278,14 @@ impl Goroutine {
         steps: &mut Steps<L>,
     ) -> Option<TableTurnEnd>
         requires at { GoroutineIsAt run.now self.old next.now turning.old.left }
-        requires noted { turning.old.changed.count < 8 }
+        requires noted { turning.old.changed.count < 6 }
         requires is { (to : Option ℕ) × (operation_of next.now.op ≡ Do to action (numbers_of from)) }
         requires shape { length (numbers_of from) ≡ action_arity action }
         requires of_channel { IsOfChannel action }
         ensures { MakesInstruction run.now self.old self.new turning.old turning.new result }
     {
         let talked = operate(&mut self.actor, run, next, action, from, steps);
-        self.after_talk(run, talked, 1, turning)
+        self.after_talk(run, talked, OperationKind::of(action), 1, turning)
     }
 
     /// What follows an operation on a channel, which has made `done` instructions if it took effect.
@@ -292,6 +293,7 @@ impl Goroutine {
         &mut self,
         run: &Run<'_, '_>,
         talked: Talked,
+        operation: OperationKind,
         done: u32,
         turning: &mut Turning,
     ) -> Option<TableTurnEnd>
@@ -302,14 +304,14 @@ impl Goroutine {
         match talked {
             Talked::Done { at } => {
                 turning.count(done);
-                turning.note(at, done);
+                turning.note(at, operation, done);
                 None
             }
             Talked::Offered { at } => {
-                turning.note(at, 0);
+                turning.note(at, operation, 0);
                 None
             }
-            Talked::Waits { at } => Some(TableTurnEnd::Blocked { at }),
+            Talked::Waits { at } => Some(TableTurnEnd::Blocked { at, operation }),
             Talked::Lost { at } => Some(TableTurnEnd::Lost { at }),
             Talked::Trap(trap) => {
                 turning.count(1);

@@ -2,7 +2,8 @@
 //! regions. In a turn it makes up to a slice of instructions, by atomic accesses alone: no turn waits for another goroutine.
 //!
 //! [`turning`] has the turn: a loop over instructions, `execute` of `rgo_acts`, and one other act wherever it stops. [`goroutine`] has
-//! what a driver needs besides: where goroutines begin and end, and what is taken from them between turns.
+//! what a driver needs besides: where goroutines begin and end, and what is taken from them between turns. [`waking`] is what a turn
+//! reports to a driver that parks and wakes goroutines.
 //!
 //! Invariants between turns:
 //! - The record on the seat has all local steps of the goroutine; no channel is locked by it, no object of it is half made, and no
@@ -16,6 +17,7 @@
 pub mod goroutine;
 mod instructions;
 pub mod turning;
+pub mod waking;
 
 // The crates below that those above name too.
 pub use rgo_acts as acts;

@@ -17,6 +17,7 @@ ghost use Rattle.rgo_goroutine.specs.Goroutines.{IsOf, record_of_goroutine};
 ghost use Rattle.rgo_goroutine.specs.Turns.{HasTurned, IsTidy};
 
 use crate::goroutine::Goroutine;
+use crate::waking::{Changed, OperationKind};
 use rgo_acts::body::{Body, Next, Program, Side};
 use rgo_acts::duties::{self, Attended};
 use rgo_acts::runs::Run;
@@ -30,14 +31,19 @@ use std::sync::ledger::Ledger;
 /// Why a turn was over.
 #[derive(Clone, Copy, Debug, PartialEq, Eq)]
 pub enum TableTurnEnd {
-    /// It has made as many instructions as it was given, has listed as many changed channels or printed as many bytes as a turn
-    /// may, or would have ended the run, which had ended before.
+    /// It has made as many instructions as it was given, has listed as many changes or printed as many bytes as a turn may,
+    /// or would have ended the run, which had ended before.
     Went,
     /// The operation on a channel at which it is was not ready. `at` is the word of the channel's control; `None` for a nil
     /// channel.
-    Blocked { at: Option<usize> },
+    Blocked {
+        at: Option<usize>,
+        operation: OperationKind,
+    },
     /// Another goroutine had locked the channel, or changed its control meanwhile. It may be tried again at once.
-    Lost { at: usize },
+    Lost {
+        at: usize,
+    },
     /// Its first function has returned, and it owes nothing.
     Ended,
     /// It has ended the run.
@@ -46,14 +52,6 @@ pub enum TableTurnEnd {
     Short(Shortage),
     /// Memory ran out before its next step. Nothing has ended.
     NoMemory,
-}
-
-/// The channels that a turn has changed, by the words of their controls (a table has at most 2^32 words), so that goroutines
-/// that wait there can be woken. It is a hint: no contract says which words it has.
-#[derive(Clone, Copy)]
-pub struct Changed {
-    pub(crate) at: [u32; 8],
-    pub(crate) count: usize,
 }
 
 /// What a turn has done.
@@ -104,17 +102,14 @@ impl Turning {
         self.moved = true;
     }
 
-    /// It has changed the channel whose control is this word, by an act of `made` instructions. The word is listed once; an act of
-    /// no instruction lists it again, so that a turn of such acts ends by its list.
-    pub(crate) fn note(&mut self, at: usize, made: u32)
-        requires { self.old.changed.count < 8 }
+    /// It has done this operation at a word, by an act of `made` instructions.
+    pub(crate) fn note(&mut self, at: usize, operation: OperationKind, made: u32)
+        requires { self.old.changed.count < 6 }
         ensures count { (self.old.changed.count ≤ self.new.changed.count) × (self.new.changed.count ≤ self.old.changed.count + 1) }
         ensures less { self.old.changed.count < self.new.changed.count + made }
         ensures same { (self.new.left ≡ self.old.left) × (self.new.moved ≡ true) }
     {
-        if made == 0 || !self.changed.channels().contains(&listed(at)) {
-            self.changed.note(at);
-        }
+        self.changed.note(at, operation, made);
         self.moved = true;
     }
 }
@@ -183,10 +178,10 @@ impl Goroutine {
     ) -> TableTurnEnd
         requires goes { MayMakeInstructions run.now self.old turning.old.left }
         requires pages { TableHasPages run.now }
-        requires noted { turning.old.changed.count ≤ 8 }
+        requires noted { turning.old.changed.count ≤ 6 }
         ensures { Proceeds run.now self.old self.new turning.old turning.new result }
     {
-        while turning.left > 0 && turning.changed.count < 8 {
+        while turning.left > 0 && turning.changed.count < 6 {
             if let Some(stop) = self.advance(alloc, run, turning, steps) {
                 return stop;
             }
@@ -205,7 +200,7 @@ impl Goroutine {
     ) -> Option<TableTurnEnd>
         requires goes { MayMakeInstructions run.now self.old turning.old.left }
         requires pages { TableHasPages run.now }
-        requires some { (0 < turning.old.left) × (turning.old.changed.count < 8) }
+        requires some { (0 < turning.old.left) × (turning.old.changed.count < 6) }
         ensures { MakesInstruction run.now self.old self.new turning.old turning.new result }
     {
         if let Side::Offering(at) = self.actor.body.side() {
@@ -235,7 +230,7 @@ impl Goroutine {
         steps: &mut Steps<L>,
     ) -> Option<TableTurnEnd>
         requires goes { MayMakeInstructions run.now self.old turning.old.left }
-        requires noted { turning.old.changed.count < 8 }
+        requires noted { turning.old.changed.count < 6 }
         requires none { OffersNothing self.old.actor.body }
         ensures acts { GoroutineActs run.now self.old self.new turning.old turning.new result }
         ensures same { turning.new ≡ record turning.old { moved = turning.new.moved } }
@@ -269,7 +264,7 @@ impl Goroutine {
         steps: &mut Steps<L>,
     ) -> Option<TableTurnEnd>
         requires goes { MayMakeInstructions run.now self.old turning.old.left }
-        requires noted { turning.old.changed.count < 8 }
+        requires noted { turning.old.changed.count < 6 }
         requires none { OffersNothing self.old.actor.body }
         ensures acts { GoroutineActs run.now self.old self.new turning.old turning.new result }
         ensures same { turning.new ≡ record turning.old { moved = turning.new.moved } }
@@ -289,7 +284,7 @@ impl Goroutine {
         steps: &mut Steps<L>,
     ) -> Option<TableTurnEnd>
         requires goes { MayMakeInstructions run.now self.old turning.old.left }
-        requires noted { turning.old.changed.count < 8 }
+        requires noted { turning.old.changed.count < 6 }
         requires rests { self.old.actor.body.side ≡ side.AtRest }
         ensures acts { GoroutineActs run.now self.old self.new turning.old turning.new result }
         ensures same { turning.new ≡ record turning.old { moved = turning.new.moved } }
@@ -311,7 +306,7 @@ impl Goroutine {
         steps: &mut Steps<L>,
     ) -> Option<TableTurnEnd>
         requires goes { MayMakeInstructions run.now self.old turning.old.left }
-        requires noted { turning.old.changed.count < 8 }
+        requires noted { turning.old.changed.count < 6 }
         requires rests { self.old.actor.body.side ≡ side.AtRest }
         requires first { (d : Duty) × (ds : List Duty) × (self.old.actor.body.queue.duties ≡ d ∷ ds) }
         ensures acts { GoroutineActs run.now self.old self.new turning.old turning.new result }
@@ -344,7 +339,7 @@ impl Goroutine {
         steps: &mut Steps<L>,
     ) -> Option<TableTurnEnd>
         requires goes { MayMakeInstructions run.now self.old turning.old.left }
-        requires some { (0 < turning.old.left) × (turning.old.changed.count < 8) }
+        requires some { (0 < turning.old.left) × (turning.old.changed.count < 6) }
         requires offers { self.old.actor.body.side ≡ side.Offering at }
         ensures { MakesInstruction run.now self.old self.new turning.old turning.new result }
     {
@@ -356,14 +351,14 @@ impl Goroutine {
             return Some(TableTurnEnd::NoMemory);
         }
         let talked = channels::acknowledge(&mut self.actor, run, next, at, steps);
-        self.after_talk(run, talked, 0, turning)
+        self.after_talk(run, talked, OperationKind::Acknowledge, 0, turning)
     }
 
     /// Executes instructions up to the next one that the loop cannot make. A goroutine that tries a channel again, or has an offer
     /// there, is left where it is: its next instruction is that operation, which the loop cannot make.
     fn execute(&mut self, run: &Run<'_, '_>, turning: &mut Turning)
         requires goes { MayMakeInstructions run.now self.old turning.old.left }
-        requires noted { turning.old.changed.count < 8 }
+        requires noted { turning.old.changed.count < 6 }
         requires none { OffersNothing self.old.actor.body }
         requires empty { self.old.actor.body.queue.duties ≡ [] }
         requires not_yet { self.old.actor.body.is_expanded ≡ false }
@@ -385,7 +380,7 @@ impl Goroutine {
     /// Puts what is owed before the next instruction into the queue of duties.
     fn expand(&mut self, run: &Run<'_, '_>, turning: &mut Turning) -> Option<TableTurnEnd>
         requires goes { MayMakeInstructions run.now self.old turning.old.left }
-        requires noted { turning.old.changed.count < 8 }
+        requires noted { turning.old.changed.count < 6 }
         requires still { IsReadyToExpand self.old.actor.body }
         ensures acts { GoroutineActs run.now self.old self.new turning.old turning.new result }
         ensures same { turning.new ≡ record turning.old { moved = true } }
@@ -426,36 +421,6 @@ fn room_behind_offer(
     match body.expand(program, next) {
         Ok(()) => body.room_behind(next),
         Err(error) => Err(error),
-    }
-}
-
-/// A word as a list has it. A table has at most 2^32 words, so each of them has a number of its own.
-fn listed(at: usize) -> u32 {
-    u32::try_from(at).unwrap_or(u32::MAX)
-}
-
-impl Changed {
-    fn new() -> Changed
-        ensures { result.count ≡ 0 }
-    {
-        Changed {
-            at: [0; 8],
-            count: 0,
-        }
-    }
-
-    /// One more.
-    pub(crate) fn note(&mut self, at: usize)
-        requires { self.old.count < 8 }
-        ensures { self.new.count ≡ self.old.count + 1 }
-    {
-        self.at[self.count] = listed(at);
-        self.count += 1;
-    }
-
-    /// The words of the controls.
-    pub fn channels(&self) -> &[u32] {
-        self.at.get(..self.count).unwrap_or(&[])
     }
 }
 

@@ -59,7 +59,7 @@ turn_some a b n e f = omega arith
 
 stands_for : (r : Run) (old new : Goroutine) (slice n changed : ℕ) (es : List Access) (lack : Option Shortage) (why : TableTurnEnd) → Tells why lack
     → TurnStops r old new slice n changed es why → StandsStill r.setup (number_of old.actor.seat.me) (record_of_goroutine r.setup new) es lack
-stands_for r old new slice n changed es lack (stop.Blocked at) is s =
+stands_for r old new slice n changed es lack (stop.Blocked at operation) is s =
     subst (λ (o : Option Shortage). StandsStill r.setup (number_of old.actor.seat.me) (record_of_goroutine r.setup new) es o) (sym is) (inl (at, s.1))
 stands_for r old new slice n changed es lack (stop.Lost at) is s =
     subst (λ (o : Option Shortage). StandsStill r.setup (number_of old.actor.seat.me) (record_of_goroutine r.setup new) es o) (sym is) (inr (at, s.1))

@@ -48,7 +48,7 @@ pub record KnowsByLook : Type 0 where
 
 -- why the turn was over says what the goroutine lacks
 abbrev pub Tells : TableTurnEnd → Option Shortage → Type 0
-Tells (stop.Blocked at) lack = lack ≡ None
+Tells (stop.Blocked at operation) lack = lack ≡ None
 Tells (stop.Lost at) lack = lack ≡ None
 Tells (stop.Short why) lack = lack ≡ Some why
 Tells stop.Went lack = ⊥

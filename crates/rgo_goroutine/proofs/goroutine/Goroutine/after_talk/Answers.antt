@@ -39,7 +39,7 @@ returns-in-Offered c first has =
 pub returns-in-Waits : goal.returns-in-Waits
 returns-in-Waits c first has =
     talk_waits c.args.run.now first c.args.self.now c.args.turning.now c.args.turning.now c.args.done c.args.talked has c.in-Waits.at
-    c.in-Waits.is refl
+    c.args.operation c.in-Waits.is refl
 
 pub returns-in-Lost : goal.returns-in-Lost
 returns-in-Lost c first has =

@@ -20,11 +20,11 @@ returns-in-Some g c =
     (acts_then c.args.run.now c.args.self.now c.loop-turning.self c.advance.new.self c.args.turning.now c.loop-turning.turning
     c.advance.new.turning (Some c.in-Some.stop) c.loop-turning.invariant c.in-Some.ensures.acts)
 
--- it has changed as many channels as its list can have
-pub returns-else-turning-lt8 : goal.returns-else-turning-lt8
-returns-else-turning-lt8 g c =
+-- it has changed as much as its list can have
+pub returns-else-turning-lt6 : goal.returns-else-turning-lt6
+returns-else-turning-lt6 g c =
     let within = c.loop-turning.invariant.noted in
-    let all = c.if-turning-lt8.false in
+    let all = c.if-turning-lt6.false in
     used_up c.args.run.now c.args.self.now c.loop-turning.self c.args.turning.now c.loop-turning.turning c.loop-turning.invariant
     (inr (omega (arith, within, all)))
 
