@@ -1,6 +1,6 @@
 -- Lists, boxes, groups and sums, whatever their elements are.
 pub mod Boxing
-pub mod Groups
+pub mod Queues
 pub mod Summing
 pub mod Sweeps
 pub mod Walks

@@ -85,9 +85,13 @@ pub record FailsIf (is_so : Type 0) (before now : ℕ) (is_broken : Bool) : Type
   pub broken : is_so → is_broken ≡ true
   pub held : (is_so → ⊥) → now ≡ before
 
--- whether the limit of instructions was reached, and passed by fewer than 1,000 for each goroutine
+-- how many instructions each goroutine may execute after the limit of them was reached; the claim says 1,000, too
+abbrev pub overrun : ℕ
+overrun = 1000
+
+-- whether the limit of instructions was reached, and passed by fewer than `overrun` for each goroutine
 abbrev pub is_spent : (made : Counts) (most : ℕ) → Bool
-is_spent made most = nat_le most made.steps && nat_lt made.steps (most + 1000 * made.goroutines)
+is_spent made most = nat_le most made.steps && nat_lt made.steps (most + overrun * made.goroutines)
 
 -- How a run has ended that no goroutine has ended, by why its driver ended it, by what it has made, and by the instructions that may be
 -- executed. The other cases do not arise, and no proof needs that: they end for want of memory, which claims nothing.

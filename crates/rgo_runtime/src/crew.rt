@@ -31,7 +31,6 @@ ghost use Rattle.rgo_sched.specs.Rounds.{RoundOf};
 ghost use Rattle.rgo_sound.specs.Tally.{no_share};
 ghost use Rattle.rgo_table_runs.specs.closing.Members.{NoneIsLost};
 
-use crate::changes::Changes;
 use crate::deadlock::{Passed, check_uncounted};
 use crate::parking::Parked;
 use crate::printing::PrintQueue;
@@ -39,8 +38,9 @@ use crate::retiring::{
     Left, Snapshot, retire, retire_newborns, retire_parked, retire_turns, save_counts,
 };
 use crate::shares::Shares;
-use crate::time_slices::is_early;
+use crate::time_slices::{FEW, is_early};
 use crate::turns::Turn;
+use crate::waking::Chances;
 use rgo_core::table::RunSeat;
 use rgo_core_steps::clock::Mark;
 use rgo_outside::{Gate, Sink, WriteFault};
@@ -48,6 +48,7 @@ use rgo_sched::round;
 use rgo_table_runs::goroutine::acts::runs::Run;
 use rgo_table_runs::goroutine::goroutine::Goroutine;
 use rgo_table_runs::goroutine::turning::{TableTurnEnd, Turned};
+use rgo_table_runs::goroutine::waking::OperationKind;
 use std::alloc::{AllocError, AllocFailed, Global};
 use std::marker::Model;
 use std::thread::Threads;
@@ -96,28 +97,22 @@ pub struct RoundSummary {
     pub lacks_memory: bool,
 }
 
-/// Where a goroutine is after its turn: in the run queue, parked at this address, or retired.
+/// Where a goroutine is after its turn: in the run queue, parked until it can do an operation at an address, or retired.
 enum Status {
     Ready,
-    Parked(usize),
+    Parked { at: usize, operation: OperationKind },
     Retired,
 }
 
-/// Whether a goroutine is parked whose turn has ended at a channel that was not ready: unless another turn of the round has changed that
-/// channel. That turn may have changed it after this goroutine had looked, and then nothing would wake it before the next check for a
-/// deadlock. In the first rounds it has one more turn if it has moved, so that small programs show their goroutines beside each other.
-fn should_park(turned: &Turned, at: Option<usize>, changes: &Changes, number: u64) -> bool {
-    if turned.moved && is_early(number) {
-        return false;
-    }
-    match at {
-        Some(at) => !changes.are_by_others(turned, at),
-        None => true,
-    }
+/// Whether a goroutine that has moved has one more turn, although its last one ended at a channel that was not ready. It has one in the first
+/// rounds, so that small programs show their goroutines beside each other; and in a round of few, since a turn costs less than to park the
+/// goroutine and to wake it, and those that talk to each other then do so in every round.
+fn has_another_turn(turned: &Turned, number: u64, turns: usize) -> bool {
+    turned.moved && (is_early(number) || turns <= FEW)
 }
 
-/// Where a goroutine is after its turn in the round of this number. True once all turns of the round are over and `changes` is sorted.
-fn status_after(turn: &Turn<'_, '_>, changes: &Changes, number: u64) -> Status
+/// Where a goroutine is after its turn in the round of this number, in which this many had turns. True once all of them are over.
+fn status_after(turn: &Turn<'_, '_>, number: u64, turns: usize) -> Status
     ensures taken { result ≡ Retired → (turn.now.goroutine.prints.items ≡ []) × (turn.now.goroutine.children.items ≡ []) }
     ensures ended { result ≡ Retired → MatchOption turn.now.turned ⊥ (λ turned. turned.stop ≡ Ended) }
 {
@@ -130,8 +125,11 @@ fn status_after(turn: &Turn<'_, '_>, changes: &Changes, number: u64) -> Status
             if turn.goroutine().new_prints() == 0 && turn.goroutine().new_children() == 0 => {
             Status::Retired
         }
-        TableTurnEnd::Blocked { at } if should_park(turned, at, changes, number) => {
-            Status::Parked(at.unwrap_or(NOWHERE))
+        TableTurnEnd::Blocked { at, operation } if !has_another_turn(turned, number, turns) => {
+            Status::Parked {
+                at: at.unwrap_or(NOWHERE),
+                operation,
+            }
         }
         // `Ended` with prints or children that were not taken cannot be here: `collect_all` has taken them.
         TableTurnEnd::Went
@@ -305,15 +303,16 @@ impl<'r, 'c> Crew<'r, 'c> {
     }
 
     /// Parks the goroutine at this place of the run queue. Without memory for that it stays ready, which costs time and nothing else.
-    fn park(&mut self, place: usize, at: usize)
+    fn park(&mut self, place: usize, at: usize, operation: OperationKind)
         requires { place < length self.old.ready }
         ensures kept { KeepsAll self.old self.new }
         ensures run { self.new.run ≡ self.old.run }
         ensures next { self.new.next ≡ self.old.next }
         ensures left { length self.old.ready ≤ length self.new.ready + 1 }
     {
-        let turn = self.ready.swap_remove(place);
-        match self.parked.park(at, turn) {
+        let mut turn = self.ready.swap_remove(place);
+        let is_oldest = turn.begin_waiting();
+        match self.parked.park(at, operation, turn, is_oldest) {
             Ok(()) => {}
             // There is room: one was taken out just now.
             Err(failed) => self.ready.push_reserved(failed.value),
@@ -344,22 +343,66 @@ impl<'r, 'c> Crew<'r, 'c> {
         );
     }
 
-    /// Parks those that wait, and retires those that have ended, of the first `turns` in the run queue, which had turns in this round. It
-    /// goes from the last to the first, since one that leaves is replaced by the last of the queue.
-    fn park_and_retire(&mut self, changes: &Changes, turns: usize, number: u64)
+    /// Turns the run queue around.
+    fn reverse_queue(&mut self)
         ensures kept { KeepsAll self.old self.new }
         ensures run { self.new.run ≡ self.old.run }
         ensures next { self.new.next ≡ self.old.next }
     {
-        let mut place = turns.min(self.ready.len());
+        self.ready.reverse();
+    }
+
+    /// Gives chances to those that wait and were not parked yet, in the order of their turns, so that they stay in the run queue. Only in a
+    /// round of few; in a larger one they are parked, and woken after it. Returns whether one of the run queue leaves it.
+    fn give_chances(&self, number: u64, chances: &mut Chances) -> bool {
+        let turns = self.ready.len();
+        let mut leaves = false;
+        for turn in &self.ready {
+            match status_after(turn, number, turns) {
+                Status::Ready => chances.note(false),
+                Status::Parked { at, operation } => {
+                    // Those that are parked there have waited longer.
+                    let has_chance = turns <= FEW
+                        && !self.parked.is_waited_at(at, operation)
+                        && chances.claim(at, operation);
+                    chances.note(has_chance);
+                    leaves = leaves || !has_chance;
+                }
+                Status::Retired => {
+                    chances.note(false);
+                    leaves = true;
+                }
+            }
+        }
+        leaves
+    }
+
+    /// Parks those that wait and have no chance, and retires those that have ended, of the run queue, each of which had a turn in this
+    /// round. One that leaves is replaced by the last of the queue, so it goes from the last to the first; and the queue is turned around
+    /// for that, so that those that had their turns first are parked first.
+    fn park_and_retire(&mut self, number: u64, chances: &mut Chances)
+        ensures kept { KeepsAll self.old self.new }
+        ensures run { self.new.run ≡ self.old.run }
+        ensures next { self.new.next ≡ self.old.next }
+    {
+        if !self.give_chances(number, chances) {
+            return;
+        }
+        self.reverse_queue();
+        let turns = self.ready.len();
+        let mut place = turns;
         while place > 0 {
             place -= 1;
-            match status_after(&self.ready[place], changes, number) {
+            if chances.has_chance(turns - 1 - place) {
+                continue;
+            }
+            match status_after(&self.ready[place], number, turns) {
                 Status::Ready => {}
-                Status::Parked(at) => self.park(place, at),
+                Status::Parked { at, operation } => self.park(place, at, operation),
                 Status::Retired => self.retire(place),
             }
         }
+        self.reverse_queue();
     }
 
     /// Puts the goroutines that were started in this round into the run queue. They have places for what they count.
@@ -391,17 +434,23 @@ impl<'r, 'c> Crew<'r, 'c> {
         Ok(())
     }
 
-    /// Wakes those that are parked at this word: they are in the run queue again.
+    /// Wakes up to `most` of those that wait to do this operation at a word, the oldest first: they are in the run queue again. Returns how
+    /// many.
     ///
     /// # Errors
     ///
     /// On allocation failure. Then nothing has changed.
-    fn wake(&mut self, at: usize) -> Result<(), AllocError>
+    fn wake_oldest(
+        &mut self,
+        at: usize,
+        operation: OperationKind,
+        most: usize,
+    ) -> Result<usize, AllocError>
         ensures kept { KeepsAll self.old self.new }
         ensures run { self.new.run ≡ self.old.run }
         ensures next { self.new.next ≡ self.old.next }
     {
-        self.parked.unpark(at, &mut self.ready)
+        self.parked.unpark(at, operation, most, &mut self.ready)
     }
 
     /// Wakes all that are parked. Before a check for a deadlock, and before an exact count of instructions.
@@ -418,7 +467,7 @@ impl<'r, 'c> Crew<'r, 'c> {
         self.parked.unpark_all(&mut self.ready)
     }
 
-    /// What the turns of this round, of up to `slice` instructions, have come to, and which words they have changed. After the prints were
+    /// What the turns of this round, of up to `slice` instructions, have come to, and which chances they have made. After the prints were
     /// collected, and before anybody is woken or parked: then the run queue has exactly those that had turns.
     ///
     /// # Errors
@@ -428,9 +477,9 @@ impl<'r, 'c> Crew<'r, 'c> {
         &self,
         moved: bool,
         slice: u32,
-        changes: &mut Changes,
+        chances: &mut Chances,
     ) -> Result<RoundSummary, AllocError> {
-        changes.clear();
+        chances.clear(self.ready.len())?;
         let mut summary = RoundSummary {
             moved,
             all_used: self.prints.is_empty(),
@@ -445,32 +494,54 @@ impl<'r, 'c> Crew<'r, 'c> {
                 summary.is_over = summary.is_over || turn.goroutine().first().is_some();
                 summary.lacks_memory = summary.lacks_memory
                     || turned.stop == TableTurnEnd::NoMemory;
-                changes.add(turned)?;
+                chances.add(turned)?;
             }
         }
-        changes.sort();
         Ok(summary)
     }
 
-    /// Wakes those that are parked at these words.
+    /// Wakes those that are parked and have this chance.
     ///
     /// # Errors
     ///
-    /// On allocation failure. Then some of them are.
-    fn wake_each(&mut self, words: &[u32]) -> Result<(), AllocError>
+    /// On allocation failure. Then nothing has changed.
+    fn wake_by(&mut self, place: usize, chances: &mut Chances) -> Result<(), AllocError>
         ensures kept { KeepsAll self.old self.new }
         ensures run { self.new.run ≡ self.old.run }
         ensures next { self.new.next ≡ self.old.next }
     {
-        for at in words {
-            self.wake(*at as usize)?;
+        let Some(chance) = chances.get(place) else {
+            // Cannot be: the caller goes over the chances.
+            return Ok(());
+        };
+        let most = chance.times as usize;
+        let woken = self.wake_oldest(chance.at as usize, chance.operation, most)?;
+        chances.use_up(place, woken);
+        Ok(())
+    }
+
+    /// Wakes those that are parked and have a chance.
+    ///
+    /// # Errors
+    ///
+    /// On allocation failure. Then some of them are woken.
+    fn wake_each(&mut self, chances: &mut Chances) -> Result<(), AllocError>
+        ensures kept { KeepsAll self.old self.new }
+        ensures run { self.new.run ≡ self.old.run }
+        ensures next { self.new.next ≡ self.old.next }
+    {
+        if self.parked.is_empty() {
+            return Ok(());
+        }
+        for place in 0..chances.len() {
+            self.wake_by(place, chances)?;
         }
         Ok(())
     }
 
-    /// A round: each goroutine of the run queue has a turn of up to `slice` instructions. What they have printed waits. Those that they have
-    /// started, and those that wait at words that they have changed, are in the run queue after it; those that have ended retire, and those
-    /// that wait are parked. The changed words are left in `changes`, whatever was there before, so that one list serves for all rounds.
+    /// A round: each goroutine of the run queue has a turn of up to `slice` instructions. What they have printed waits. Those that have ended
+    /// retire, and those that wait are parked; those that were started, and those that can continue after what was done in the round, are in
+    /// the run queue after it. The chances are left in `chances`, whatever was there before, so that one list serves for all rounds.
     ///
     /// # Errors
     ///
@@ -482,7 +553,7 @@ impl<'r, 'c> Crew<'r, 'c> {
         slice: u32,
         number: u64,
         gate: &G,
-        changes: &mut Changes,
+        chances: &mut Chances,
     ) -> Result<RoundSummary, AllocError>
         requires workers { (1 ≤ workers) × (workers ≤ 64) }
         ensures kept { KeepsAll self.old self.new }
@@ -494,11 +565,10 @@ impl<'r, 'c> Crew<'r, 'c> {
         self.set_time_slices(slice);
         let moved = self.turn_all(rt, workers, number, gate)?;
         self.collect_all()?;
-        let summary = self.summarize(moved, slice, changes)?;
-        // Those that waited before this round are woken first, and come after the first `turns`, so that they are not parked again.
-        let turns = self.ready.len();
-        self.wake_each(changes.words())?;
-        self.park_and_retire(changes, turns, number);
+        let summary = self.summarize(moved, slice, chances)?;
+        self.park_and_retire(number, chances);
+        // After those were parked that wait since this round: they may have a chance that comes from a later turn.
+        self.wake_each(chances)?;
         self.enqueue_newborns()?;
         Ok(summary)
     }

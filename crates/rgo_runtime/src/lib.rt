@@ -5,19 +5,20 @@
 //! and nothing else; what goroutines share is in the table, and only the crates below access it.
 #![tactic(auto)]
 
-pub mod changes;
 pub mod crew;
 pub mod deadlock;
 pub mod ends;
 pub mod laws;
 pub mod parking;
 pub mod printing;
+pub mod queues;
 pub mod retiring;
 pub mod runs;
 pub mod shares;
 pub mod sizing;
 mod time_slices;
 pub mod turns;
+mod waking;
 
 // The crates below that those above name too.
 pub use rgo_table_runs::goroutine as goroutine;

@@ -1,234 +1,110 @@
-//! Goroutines that are parked until a word of the table changes, by the address of the word (`semaroot` in Go's runtime).
-//!
-//! Invariant: `count` is how many values all groups have together. An address has one group, the oldest first; a group from which all were
-//! woken stays as an empty one, since its channel is likely to be waited at again.
+//! Goroutines that are parked until a word of the table changes, by the operation that each of them waits to do and by the address of the
+//! word (`semaroot` in Go's runtime). So a change wakes those that can use it, and no others.
 //!
 //! Only the driver's thread parks and wakes, between rounds, when no goroutine runs: no lock is needed, and a value that was parked is
-//! there until the next `unpark` of its address, whatever workers do.
-ghost use Rattle.std.specs.Prelude.{◌≡◌, ◌==◌, ◌++◌, ◌∷◌, [], ◌<◌, ◌≤◌, ◌-◌, IfErr, IfOk, IsPermutation, MatchOption, None, OnErr, OnOk, length, nat_eq, vec_capacity, vec_len};
-ghost use Rattle.indexmap.specs.IndexMap.{get};
-ghost use Rattle.rgo_runtime.specs.Parking.{ParkingExamples, TakesAll, elsewhere, pairs_of, values_at, parked_values};
+//! there until it is woken, whatever workers do.
+ghost use Rattle.std.specs.Prelude.{◌≡◌, ◌==◌, IfErr, IfOk, OnErr, OnOk, length, take};
+ghost use Rattle.rgo_runtime.specs.Parking.{ParkingExamples, TakesAll, all_parked, nobody_parked};
+ghost use Rattle.rgo_runtime.specs.Parking as spec;
 
-use indexmap::IndexMap;
+use crate::queues::Queues;
+use rgo_table_runs::goroutine::waking::OperationKind;
 use std::alloc::{AllocError, AllocFailed, Global};
 use std::marker::Model;
 
-/// The values at each address, the oldest first.
-type Groups<T> = IndexMap<usize, Vec<T>>;
-
-/// The most groups at which lists without values keep their memory, and the most values for which such a list has memory.
-const MOST_KEPT: usize = 1_024;
-
-const LONGEST_KEPT: usize = 64;
-
-/// Goroutines, each parked at the address of a word.
-///
-/// An address at which a goroutine was parked keeps an entry of a few words until [`Parked::unpark_all`], and, where there are not many,
-/// the memory of a short list.
+/// Goroutines, each parked at the address of a word, at which it waits to do an operation.
 #[derive(Drop)]
 pub struct Parked<T: Drop> {
-    groups: Groups<T>,
-    /// How many are parked.
-    count: usize,
-    alloc: Global,
+    senders: Queues<T>,
+    receivers: Queues<T>,
+    /// Those that wait until their offer is taken. A channel has at most one.
+    offerers: Queues<T>,
 }
 
 impl<T: Drop> Model for Parked<T> {
-    ghost use Rattle.std.specs.Prelude.{◌≡◌, ℕ, List, length};
-    ghost use Rattle.rgo_runtime.specs.Parking.{pairs_of};
+    ghost use Rattle.rgo_runtime.specs.Parking as spec;
 
-    ghost Value = { List (ℕ × T) };
+    ghost Value = { spec.Parked T };
 
-    ghost view = { λ parked. pairs_of parked.groups.entries };
-
-    ghost invariant = { λ parked. parked.count ≡ length (pairs_of parked.groups.entries) };
-}
-
-/// Begins a group at an address that has none. The entry's memory is reserved before the value moves into its list, so that the error can
-/// return the value.
-fn new_group<T: Drop>(
-    alloc: Global,
-    groups: &mut Groups<T>,
-    at: usize,
-    value: T,
-) -> Result<(), AllocFailed<T>>
-    requires { get nat_eq groups.old at ≡ None }
-    ensures parked { OnOk result (pairs_of groups.new.entries ≡ pairs_of groups.old.entries ++ (at, value) ∷ []) }
-    ensures back { IfErr result (λ failed. failed.value ≡ value) }
-    ensures same { OnErr result (pairs_of groups.new.entries ≡ pairs_of groups.old.entries) }
-{
-    match groups.reserve(1) {
-        Ok(()) => {}
-        Err(_) => return Err(AllocFailed { value }),
-    }
-    let mut group = Vec::new(alloc);
-    match group.push(value) {
-        Ok(()) => {}
-        Err(failed) => return Err(failed),
-    }
-    // There is room: it was reserved above.
-    groups.insert(at, group).unwrap();
-    Ok(())
-}
-
-/// Adds a value to the group of an address. The view lists the pairs group by group, so the new one comes somewhere among them, and the
-/// clause `parked` says no more than that it is one of them.
-fn add_to_group<T: Drop>(
-    alloc: Global,
-    groups: &mut Groups<T>,
-    at: usize,
-    value: T,
-) -> Result<(), AllocFailed<T>>
-    ensures parked { OnOk result (IsPermutation (pairs_of groups.new.entries) ((at, value) ∷ pairs_of groups.old.entries)) }
-    ensures back { IfErr result (λ failed. failed.value ≡ value) }
-    ensures same { OnErr result (pairs_of groups.new.entries ≡ pairs_of groups.old.entries) }
-{
-    match groups.get_mut(&at) {
-        Some(group) => match group.push(value) {
-            Ok(()) => Ok(()),
-            Err(failed) => Err(failed),
-        },
-        None => match new_group(alloc, groups, at, value) {
-            Ok(()) => Ok(()),
-            Err(failed) => Err(failed),
-        },
-    }
-}
-
-/// The list of a group that was woken keeps its memory for those that are parked there next, unless it is long or there are many groups.
-fn trim_group<T: Drop>(alloc: Global, group: &mut Vec<T>, is_few: bool)
-    requires { group.old.items ≡ [] }
-    ensures { group.new.items ≡ [] }
-{
-    if !is_few || group.capacity() > LONGEST_KEPT {
-        *group = Vec::new(alloc);
-    }
-}
-
-/// Moves the group of an address to the end of a list. Returns how many came, by which `count` shrinks. An address without a group
-/// is not an error: a channel may change at which nobody waits.
-fn take_group<T: Drop>(
-    alloc: Global,
-    groups: &mut Groups<T>,
-    at: usize,
-    into: &mut Vec<T>,
-) -> Result<usize, AllocError>
-    ensures woken { IfOk result (λ count. count ≡ length (values_at at (pairs_of groups.old.entries))) }
-    ensures into { OnOk result (into.new.items ≡ into.old.items ++ values_at at (pairs_of groups.old.entries)) }
-    ensures left { OnOk result (pairs_of groups.new.entries ≡ elsewhere at (pairs_of groups.old.entries)) }
-    ensures same { OnErr result (pairs_of groups.new.entries ≡ pairs_of groups.old.entries) }
-    ensures kept { OnErr result (into.new.items ≡ into.old.items) }
-{
-    let is_few = groups.len() <= MOST_KEPT;
-    match groups.get_mut(&at) {
-        Some(group) => {
-            let count = group.len();
-            match into.append(group) {
-                Ok(()) => {
-                    trim_group(alloc, group, is_few);
-                    Ok(count)
-                }
-                Err(error) => Err(error),
-            }
-        }
-        None => Ok(0),
-    }
-}
-
-/// Moves all groups to the end of a list that has room for them, so that no append can fail when some have moved and others have not.
-fn take_all_groups<T: Drop>(groups: &mut Groups<T>, into: &mut Vec<T>)
-    requires { length (pairs_of groups.old.entries) ≤ vec_capacity into.old - vec_len into.old }
-    ensures moved { TakesAll (pairs_of groups.old.entries) into.old.items into.new.items }
-    ensures none { groups.new.entries ≡ [] }
-{
-    while let Some((_, mut group)) = groups.pop() {
-        // There is room for all: the caller has reserved it.
-        into.append(&mut group).unwrap();
-    }
+    ghost view = { λ p. record { senders = p.senders; receivers = p.receivers; offerers = p.offerers } };
 }
 
 impl<T: Drop> Parked<T> {
     /// None is parked.
     pub fn new(alloc: Global) -> Parked<T>
-        ensures { result ≡ [] }
+        ensures { result ≡ nobody_parked }
     {
         Parked {
-            groups: IndexMap::new(alloc),
-            count: 0,
-            alloc,
+            senders: Queues::new(alloc),
+            receivers: Queues::new(alloc),
+            offerers: Queues::new(alloc),
         }
     }
 
-    /// How many are parked, until the next call that parks or wakes.
-    pub fn len(&self) -> usize
-        ensures { result ≡ length self.now }
-    {
-        self.count
-    }
-
-    /// Whether none is parked. `count` decides it: groups that were woken stay, so there may be groups and no value.
-    pub fn is_empty(&self) -> bool
-        ensures { result ≡ (length self.now == 0) }
-    {
-        self.count == 0
-    }
-
-    /// Parks a goroutine at an address.
+    /// Parks a goroutine that waits to do this operation at an address: as the oldest, if it was woken and could not continue, and else as
+    /// the youngest.
     ///
     /// # Errors
     ///
     /// On allocation failure. Then nothing has changed, and the error returns the goroutine.
-    pub fn park(&mut self, at: usize, value: T) -> Result<(), AllocFailed<T>>
-        ensures parked { OnOk result (IsPermutation self.new ((at, value) ∷ self.old)) }
+    #[inline(always)]
+    pub fn park(
+        &mut self,
+        at: usize,
+        operation: OperationKind,
+        value: T,
+        is_oldest: bool,
+    ) -> Result<(), AllocFailed<T>>
+        ensures parked { OnOk result (spec.Parks at operation is_oldest value self.old self.new) }
         ensures back { IfErr result (λ failed. failed.value ≡ value) }
         ensures same { OnErr result (self.new ≡ self.old) }
     {
-        let Some(count) = self.count.checked_add(1) else {
-            // Cannot be: as many values do not fit in memory.
-            return Err(AllocFailed { value });
-        };
-        match add_to_group(self.alloc, &mut self.groups, at, value) {
-            Ok(()) => {
-                self.count = count;
-                Ok(())
-            }
-            Err(failed) => Err(failed),
+        match operation {
+            // A close never waits.
+            OperationKind::Send | OperationKind::Close => self.senders.push(at, value, is_oldest),
+            OperationKind::Receive => self.receivers.push(at, value, is_oldest),
+            OperationKind::Acknowledge => self.offerers.push(at, value, is_oldest),
         }
     }
 
-    /// The goroutines that are parked at an address come to the list's end, the oldest first. The others are not touched.
+    /// Up to `most` goroutines that wait to do this operation at an address come to the list's end, the oldest first. Returns how many.
     ///
     /// # Errors
     ///
     /// On allocation failure. Then nothing has changed.
-    pub fn unpark(&mut self, at: usize, into: &mut Vec<T>) -> Result<(), AllocError>
-        ensures woken { OnOk result (into.new.items ≡ into.old.items ++ values_at at self.old) }
-        ensures left { OnOk result (self.new ≡ elsewhere at self.old) }
+    #[inline(always)]
+    pub fn unpark(
+        &mut self,
+        at: usize,
+        operation: OperationKind,
+        most: usize,
+        into: &mut Vec<T>,
+    ) -> Result<usize, AllocError>
+        ensures woken { IfOk result (λ many. spec.Wakes at operation most many self.old into.old.items self.new into.new.items) }
         ensures same { OnErr result (self.new ≡ self.old) }
         ensures kept { OnErr result (into.new.items ≡ into.old.items) }
     {
-        match take_group(self.alloc, &mut self.groups, at, into) {
-            Ok(count) => {
-                self.count -= count;
-                Ok(())
-            }
-            Err(error) => Err(error),
+        match operation {
+            OperationKind::Send | OperationKind::Close => self.senders.take(at, most, into),
+            OperationKind::Receive => self.receivers.take(at, most, into),
+            OperationKind::Acknowledge => self.offerers.take(at, most, into),
         }
     }
 
-    /// Takes the goroutines that are parked at some address, at least one, the oldest first; `None` if none is parked. For a driver that
-    /// ends a run, to which addresses no longer matter. It skips groups that were woken.
-    pub fn pop(&mut self) -> Option<Vec<T>>
-        ensures some { MatchOption result (self.old ≡ []) (λ group. 0 < length group.items) }
-        ensures rest { MatchOption result (self.new ≡ []) (λ group. parked_values self.old ≡ parked_values self.new ++ group.items) }
+    /// Whether none is parked.
+    pub fn is_empty(&self) -> bool
+        ensures { result ≡ (length (all_parked self.now) == 0) }
     {
-        while let Some((_, group)) = self.groups.pop() {
-            if !group.is_empty() {
-                self.count -= group.len();
-                return Some(group);
-            }
+        self.senders.len() == 0 && self.receivers.len() == 0 && self.offerers.len() == 0
+    }
+
+    /// Whether a goroutine waits to do this operation at an address.
+    pub fn is_waited_at(&self, at: usize, operation: OperationKind) -> bool {
+        match operation {
+            OperationKind::Send | OperationKind::Close => self.senders.has_any(at),
+            OperationKind::Receive => self.receivers.has_any(at),
+            OperationKind::Acknowledge => self.offerers.has_any(at),
         }
-        None
     }
 
     /// All goroutines that are parked come to the list's end. Room for all is reserved before the first moves.
@@ -237,23 +113,41 @@ impl<T: Drop> Parked<T> {
     ///
     /// On allocation failure. Then nothing has changed.
     pub fn unpark_all(&mut self, into: &mut Vec<T>) -> Result<(), AllocError>
-        ensures woken { OnOk result (TakesAll self.old into.old.items into.new.items) }
-        ensures left { OnOk result (self.new ≡ []) }
+        ensures woken { OnOk result (TakesAll (all_parked self.old) into.old.items into.new.items) }
+        ensures left { OnOk result (self.new ≡ nobody_parked) }
         ensures same { OnErr result (self.new ≡ self.old) }
         ensures kept { OnErr result (into.new.items ≡ into.old.items) }
     {
-        match into.reserve(self.count) {
+        let parked = self
+            .senders
+            .len()
+            .saturating_add(self.receivers.len())
+            .saturating_add(self.offerers.len());
+        match into.reserve(parked) {
             Ok(()) => {
-                take_all_groups(&mut self.groups, into);
-                self.count = 0;
+                self.senders.take_all(into);
+                self.receivers.take_all(into);
+                self.offerers.take_all(into);
                 Ok(())
             }
             Err(error) => Err(error),
         }
     }
+
+    /// The queues, for a driver that ends a run.
+    pub(crate) fn into_queues(self) -> (Queues<T>, Queues<T>, Queues<T>)
+        ensures { (result.0 ≡ self.senders) × (result.1 ≡ self.receivers) × (result.2 ≡ self.offerers) }
+    {
+        let Parked {
+            senders,
+            receivers,
+            offerers,
+        } = self;
+        (senders, receivers, offerers)
+    }
 }
 
-/// Values that are parked at two addresses.
+/// Values that are parked for two operations.
 pub fn examples()
     ensures { ParkingExamples }
 {}

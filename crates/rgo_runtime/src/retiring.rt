@@ -15,12 +15,13 @@ ghost use Rattle.rgo_core_steps.specs.Seats.{IsSeatOf};
 ghost use Rattle.rgo_table_runs.specs.Goroutine.Goroutines.{IsOf, IsTidy, all_seen, record_of_goroutine, rows_of_children};
 ghost use Rattle.rgo_runtime.specs.Crews.{AreRetired, CrewExamples, IsNewborn, IsOfCrew, DriverKeeps, KeepsMembers, its_goroutine, end_mark, member_of};
 ghost use Rattle.rgo_runtime.specs.Leaving.{HaveLeft, LeavingExamples};
-ghost use Rattle.rgo_runtime.specs.Parking.{parked_values};
+ghost use Rattle.rgo_runtime.specs.Parking.{all_parked, parked_values};
 ghost use Rattle.rgo_table_runs.specs.Goroutine.declared.goroutine.Goroutine.{Goroutine};
 ghost use Rattle.rgo_sound.specs.Tally.{no_share};
 ghost use Rattle.rgo_table_runs.specs.closing.Members.{retired};
 
 use crate::parking::Parked;
+use crate::queues::Queues;
 use crate::shares::Shares;
 use crate::turns::Turn;
 use rgo_core::table::RunSeat;
@@ -168,20 +169,33 @@ pub(crate) fn retire_turns<'r, 'c>(
     }
 }
 
+/// Retires those that wait to do one operation, or gives them up.
+fn retire_queues<'r, 'c>(run: &'r Run<'r, 'c>, mut queues: Queues<Turn<'r, 'c>>, left: &mut Left)
+    requires all { All (IsOfCrew run.now (length left.old.shares)) (parked_values queues) }
+    requires own { IsSeatOf left.old.seat.table_id run.now.table clock_at }
+    ensures { (gone : List Goroutine) × IsPermutation gone (map its_goroutine (parked_values queues.entry))
+        × HaveLeft run.now.setup gone left.old left.new }
+{
+    while let Some(group) = queues.pop() {
+        retire_turns(run, group, left);
+    }
+}
+
 /// Retires those that are parked, or gives them up.
 pub(crate) fn retire_parked<'r, 'c>(
     run: &'r Run<'r, 'c>,
-    mut parked: Parked<Turn<'r, 'c>>,
+    parked: Parked<Turn<'r, 'c>>,
     left: &mut Left,
 )
-    requires all { All (IsOfCrew run.now (length left.old.shares)) (parked_values parked) }
+    requires all { All (IsOfCrew run.now (length left.old.shares)) (parked_values (all_parked parked)) }
     requires own { IsSeatOf left.old.seat.table_id run.now.table clock_at }
-    ensures { (gone : List Goroutine) × IsPermutation gone (map its_goroutine (parked_values parked.entry))
+    ensures { (gone : List Goroutine) × IsPermutation gone (map its_goroutine (parked_values (all_parked parked.entry)))
         × HaveLeft run.now.setup gone left.old left.new }
 {
-    while let Some(group) = parked.pop() {
-        retire_turns(run, group, left);
-    }
+    let (senders, receivers, offerers) = parked.into_queues();
+    retire_queues(run, senders, left);
+    retire_queues(run, receivers, left);
+    retire_queues(run, offerers, left);
 }
 
 /// Retires those that were just started, or gives them up. They have counted nothing, so they need no place. There are some only if memory

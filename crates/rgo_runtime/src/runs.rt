@@ -5,7 +5,7 @@
 //!
 //! One thread, the driver's, runs all of this file. A goroutine ends the run by a mark at the table; the driver ends it for the other
 //! reasons (`Why`), between rounds, and a mark goes before these.
-ghost use Rattle.std.specs.Prelude.{◌≡◌, ◌≤◌, ◌<◌, ◌^◌, ◌+◌, ◌*◌, ◌↔◌, true, [], IfOk, MatchResult, OnErr, Some, None, MatchOption, List, Option, ℕ};
+ghost use Rattle.std.specs.Prelude.{◌≡◌, ◌≤◌, ◌<◌, ◌^◌, ◌+◌, ◌*◌, ◌↔◌, true, [], IfOk, OnErr, Some, None, MatchOption, List, Option, ℕ};
 ghost use Rattle.rgo_core.specs.Image.{table_sizes};
 ghost use Rattle.rgo_core.specs.Memory.Words.{all_words as words_in_all};
 ghost use Rattle.rgo_sound.specs.Machine.declared.ends.RunEnd.TheVariants as run_end;
@@ -15,13 +15,13 @@ ghost use Rattle.rgo_runtime.specs.declared.runs.Why.TheVariants as why;
 ghost use Rattle.rgo_sound.specs.Machine.Limits.{most_goroutines};
 ghost use Rattle.rgo_sound.specs.RegionRuns.{CodeRuns};
 
-use crate::changes::Changes;
 use crate::crew::{Crew, RoundSummary};
 use crate::deadlock::Passed;
 use crate::ends::end_of;
 use crate::retiring::Left;
 use crate::sizing::{smaller_table, unless_short};
-use crate::time_slices::Pace;
+use crate::time_slices::{OVERRUN, Pace};
+use crate::waking::Chances;
 use rgo_core::memory::layout::TableSizes;
 use rgo_core::table::{close, open};
 use rgo_core_steps::clock::Mark;
@@ -39,6 +39,9 @@ use std::thread::Threads;
 pub struct Outcome {
     pub end: RunEnd,
     pub tally: Tally,
+    /// How many checks for a deadlock have found a goroutine that could continue. Each of these should have been woken before, so tests expect
+    /// none. No clause speaks of it.
+    pub rescues: u64,
 }
 
 /// Why a driver ends a run.
@@ -65,8 +68,29 @@ struct Scheduler {
     number: u64,
     /// The instructions that were executed, at most.
     steps: u64,
-    /// The words that were changed in the last round.
-    changes: Changes,
+    /// The chances of the last round.
+    chances: Chances,
+    /// How many checks for a deadlock have found a goroutine that could continue.
+    rescues: u64,
+}
+
+impl Scheduler {
+    fn new(alloc: Global) -> Scheduler {
+        Scheduler {
+            pace: Pace::new(),
+            number: 1,
+            steps: 0,
+            chances: Chances::new(alloc),
+            rescues: 0,
+        }
+    }
+
+    /// Notes that the run continues, or not, after a round. If nothing moved in it, the run continues only because of a check.
+    fn note_end(&mut self, summary: RoundSummary, continues: bool) {
+        if continues && !summary.moved {
+            self.rescues = self.rescues.saturating_add(1);
+        }
+    }
 }
 
 /// The exact number of instructions that were executed until now. It wakes all that are parked, since only the run queue is counted.
@@ -178,7 +202,7 @@ fn schedule_once<H: Threads + Sync, K: Sink, G: Gate + Sync>(
         .pace
         .time_slice(ready, most.saturating_sub(sched.steps));
     let workers = sched.pace.workers(workers, ready, slice, sched.number);
-    let summary = match crew.run_round(rt, workers, slice, sched.number, gate, &mut sched.changes) {
+    let summary = match crew.run_round(rt, workers, slice, sched.number, gate, &mut sched.chances) {
         Ok(summary) => summary,
         Err(_) => return Some(Why::Memory),
     };
@@ -190,16 +214,18 @@ fn schedule_once<H: Threads + Sync, K: Sink, G: Gate + Sync>(
         Ok(()) => {}
         Err(_) => return Some(Why::Write),
     }
-    check_end(crew, summary, most, &mut sched.steps)
+    let why = check_end(crew, summary, most, &mut sched.steps);
+    sched.note_end(summary, why.is_none());
+    why
 }
 
 /// The loop of the scheduler: rounds until the run is over.
 fn schedule<H: Threads + Sync, K: Sink, G: Gate + Sync>(
     rt: &H,
-    alloc: Global,
     crew: &mut Crew<'_, '_>,
     most: u64,
     workers: u32,
+    sched: &mut Scheduler,
     out: &mut K,
     gate: &G,
 ) -> Why
@@ -208,14 +234,8 @@ fn schedule<H: Threads + Sync, K: Sink, G: Gate + Sync>(
     ensures run { crew.new.run ≡ crew.old.run }
     ensures fault { FailsIf (result ≡ why.Write) (K.faults out.old) (K.faults out.new) (K.broken out.new) }
 {
-    let mut sched = Scheduler {
-        pace: Pace::new(),
-        number: 1,
-        steps: 0,
-        changes: Changes::new(alloc),
-    };
     for _ in 0..u64::MAX {
-        match schedule_once(rt, crew, most, workers, &mut sched, out, gate) {
+        match schedule_once(rt, crew, most, workers, sched, out, gate) {
             Some(why) => return why,
             None => {}
         }
@@ -224,13 +244,13 @@ fn schedule<H: Threads + Sync, K: Sink, G: Gate + Sync>(
     Why::Memory
 }
 
-/// Whether a run that has made this has reached its limit of instructions. By then each goroutine has executed fewer than 1,000 more than
-/// it had when the limit was last tested.
+/// Whether a run that has made this has reached its limit of instructions. By then each goroutine has executed fewer than `OVERRUN` more
+/// than it had when the limit was last tested, or its share of what was left (`Pace::time_slice`).
 fn is_spent(made: &Tally, most: u64) -> bool
     ensures { result ≡ is_spent (counts_in made.now) most }
 {
     let most = u128::from(most);
-    made.steps >= most && (made.steps - most) / 1_000 < made.goroutines
+    made.steps >= most && (made.steps - most) / u128::from(OVERRUN) < made.goroutines
 }
 
 /// How a run that has made this has ended, if no goroutine has ended it.
@@ -247,7 +267,7 @@ fn unmarked_end(why: Why, made: &Tally, most: u64) -> RunEnd
         Why::Steps => if is_spent(made, most) {
             RunEnd::StepsSpent
         } else {
-            // Cannot be: a time slice is at most a goroutine's share of what is left, or 1,000.
+            // Cannot be: a time slice is at most a goroutine's share of what is left, or `OVERRUN`.
             RunEnd::NoMemory
         },
         // `Over` cannot be: whoever ends the run has set a mark. For the others `end_of_run` has answered.
@@ -320,12 +340,13 @@ fn run_on_table<H: Threads + Sync, K: Sink, G: Gate + Sync>(
     };
     let program = Program::new(alloc, code)?;
     let (table, seat) = open(alloc, code, variables, sizes, limits)?;
+    let mut sched = Scheduler::new(alloc);
     // The goroutines borrow the table. The block ends with their retirement, so that the table can be closed.
     let (left, why) = {
         let run = Run::new(&table, layout, limits, &program);
         match Crew::new(alloc, &run, seat) {
             Ok(mut crew) => {
-                let why = schedule(rt, alloc, &mut crew, limits.steps, workers, out, gate);
+                let why = schedule(rt, &mut crew, limits.steps, workers, &mut sched, out, gate);
                 (crew.retire_all(), why)
             }
             Err(_) => return Err(AllocError),
@@ -342,6 +363,7 @@ fn run_on_table<H: Threads + Sync, K: Sink, G: Gate + Sync>(
     Ok(Outcome {
         end: end_of_run(why, is_whole, first, &tally, limits.steps),
         tally,
+        rescues: sched.rescues,
     })
 }
 
@@ -374,10 +396,15 @@ pub fn run<H: Threads + Sync, K: Sink, G: Gate + Sync>(
     let Some(few) = smaller_table(code.code(), sizes) else {
         return run_on_table(rt, alloc, code, sizes, limits, workers, out, gate);
     };
-    let Outcome { end, tally } = run_on_table(rt, alloc, code, few, limits, workers, out, gate)?;
+    let Outcome {
+        end,
+        tally,
+        rescues,
+    } = run_on_table(rt, alloc, code, few, limits, workers, out, gate)?;
     Ok(Outcome {
         end: unless_short(end),
         tally,
+        rescues,
     })
 }
 

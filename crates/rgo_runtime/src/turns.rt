@@ -35,6 +35,8 @@ pub struct Turn<'r, 'c> {
     goroutine: Box<Goroutine>,
     /// How many instructions its next turn may execute.
     slice: u32,
+    /// Whether it was parked, and has moved nothing since. No clause speaks of it.
+    has_waited: bool,
     /// What its last turn has done.
     turned: Option<Turned>,
 }
@@ -69,6 +71,7 @@ impl<'r, 'c> Turn<'r, 'c> {
             goroutine,
             slice: 0,
             turned: None,
+            has_waited: false,
         }
     }
 
@@ -91,6 +94,16 @@ impl<'r, 'c> Turn<'r, 'c> {
         ensures { result.now ≡ self.now.turned }
     {
         &self.turned
+    }
+
+    /// Notes that it is parked now. Returns whether it was parked before and has moved nothing since: then it was woken for nothing, and
+    /// keeps its place before those that came later.
+    pub fn begin_waiting(&mut self) -> bool
+        ensures { self.new ≡ self.old }
+    {
+        let has_waited = self.has_waited;
+        self.has_waited = true;
+        has_waited
     }
 
     /// The goroutine, to read what its turns have done. Between rounds.
@@ -141,6 +154,7 @@ impl<'r, 'c> Turn<'r, 'c> {
             goroutine,
             slice: _,
             turned: _,
+            has_waited: _,
         } = self;
         goroutine
     }
@@ -197,6 +211,7 @@ impl<'r, 'c> Task for Turn<'r, 'c> {
         let turned = turn_once(self.alloc, self.run, self.goroutine.as_mut(), self.slice);
         self.slice = 0;
         self.turned = Some(turned);
+        self.has_waited = self.has_waited && !turned.moved;
         turned.moved
     }
 }

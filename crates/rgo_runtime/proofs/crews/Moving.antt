@@ -1,6 +1,6 @@
 -- Goroutines go from one list of their driver to another, and nobody is lost by it. A move between the run queue and the parked ones is a
 -- permutation of both together, whether or not memory was refused, and `keeps_turns` makes `DriverKeeps` of it.
-use Rattle.std.proofs.Common.{◌≡◌, ◌<◌, ◌≤◌, ◌==◌, ⊎_elim, ℕ, not, List, [], ◌∷◌, ◌++◌, All, Err, IsPermutation, MatchOption, None, Some, Ok, OnErr, Option, OnOk, Result, filter, get_or, length, map, replicate, swap_remove, refl, ap, sym, subst, ◌∙◌, append_assoc, append-nil, arith}
+use Rattle.std.proofs.Common.{◌≡◌, ◌<◌, ◌≤◌, ◌==◌, ⊎_elim, ℕ, not, List, [], ◌∷◌, ◌++◌, All, Err, IfOk, IsPermutation, MatchOption, None, Some, Ok, OnErr, Option, OnOk, Result, filter, get_or, length, map, replicate, swap_remove, take, refl, ap, sym, subst, ◌∙◌, append_assoc, append-nil, arith}
 use Rattle.std.proofs.lemmas.List.{length-append, map-append}
 use Rattle.std.proofs.lemmas.List.Elements.{All-append, All-cons, All-head, All-nil, All-push, All-tail, All-weaker}
 use Rattle.std.proofs.lemmas.List.Sorted.{All-permutation, IsPermutation-append_left, IsPermutation-append_right, IsPermutation-filter_both, IsPermutation-map, IsPermutation-middle, IsPermutation-refl, IsPermutation-swap_remove, IsPermutation-sym, IsPermutation-to_front, IsPermutation-trans}
@@ -18,12 +18,14 @@ use Rattle.rgo_table_runs.specs.Goroutine.Turns.{HasFinished}
 use Rattle.rgo_table_runs.specs.Goroutine.declared.turning.TableTurnEnd.TheVariants.{Ended}
 use Rattle.rgo_table_runs.specs.Goroutine.declared.turning.Turned.{Turned}
 use Rattle.rgo_table_runs.specs.Goroutine.declared.goroutine.Goroutine.{Goroutine}
+use Rattle.rgo_table_runs.specs.Goroutine.declared.waking.OperationKind.{OperationKind}
 use Rattle.rgo_table_runs.specs.closing.Members.{Member, retired}
 use Rattle.rgo_runtime.specs.Crew.{Crew, IsRunCrew, KeepsAll, crew_members}
 use Rattle.rgo_runtime.specs.Crews.{AreRetired, IsNewborn, IsOfCrew, DriverKeeps, drawn, its_member, end_mark, member_of, members, turning}
-use Rattle.rgo_runtime.specs.Parking.{TakesAll, elsewhere, values_at, parked_values}
+use Rattle.rgo_runtime.specs.Parking.{Parked, TakesAll, Wakes, all_parked, parked_values, values_at, waiting_for}
 use Rattle.rgo_runtime.specs.Turns.{Turn}
 use Rattle.rgo_runtime.proofs.leaving.One.{in_cons, in_either, none_in, room_keeps}
+use Rattle.rgo_runtime.proofs.crews.Parked.{wakes_some}
 use Rattle.rgo_runtime.proofs.crews.Parts.{keeps_after, keeps_any, keeps_beside, keeps_moved, keeps_permuted, keeps_then}
 
 -- ---- lists
@@ -56,28 +58,10 @@ keeps_turns xs vs ys ws rest t same =
     (keeps_beside (turning (xs ++ vs)) (turning (ys ++ ws)) rest t t (keeps_moved its_member (xs ++ vs) (ys ++ ws) t same)))
 
 module _ (ready come : List Turn) (old new : List (ℕ × Turn)) where
-  unchanged : new ≡ old → come ≡ ready → IsPermutation (ready ++ parked_values old) (come ++ parked_values new)
+  pub unchanged : new ≡ old → come ≡ ready → IsPermutation (ready ++ parked_values old) (come ++ parked_values new)
   unchanged same kept =
       subst (λ (ps : List (ℕ × Turn)). IsPermutation (ready ++ parked_values old) (come ++ parked_values ps)) (sym same)
       (subst (λ (l : List Turn). IsPermutation (ready ++ parked_values old) (l ++ parked_values old)) (sym kept) (IsPermutation-refl (ready ++ parked_values old)))
-
-  -- `unpark`
-  pub woken : (at : ℕ) → come ≡ ready ++ values_at at old → new ≡ elsewhere at old → IsPermutation (ready ++ parked_values old) (come ++ parked_values new)
-  woken at is left =
-      let here : List (ℕ × Turn) = filter (λ p. at == p.0) old in
-      let all : IsPermutation (parked_values old) (values_at at old ++ parked_values (elsewhere at old)) =
-      subst (IsPermutation (parked_values old)) (map-append (λ (p : ℕ × Turn). p.1) here (elsewhere at old))
-      (IsPermutation-map (λ (p : ℕ × Turn). p.1) old (here ++ elsewhere at old)
-      (IsPermutation-filter_both (λ (p : ℕ × Turn). at == p.0) (λ (p : ℕ × Turn). not (at == p.0)) (λ x. refl) old)) in
-      subst (λ (l : List Turn). IsPermutation (ready ++ parked_values old) (l ++ parked_values new)) (sym is)
-      (subst (λ (ps : List (ℕ × Turn)). IsPermutation (ready ++ parked_values old) ((ready ++ values_at at old) ++ parked_values ps)) (sym left)
-      (subst (IsPermutation (ready ++ parked_values old)) (sym (append_assoc ready (values_at at old) (parked_values (elsewhere at old))))
-      (IsPermutation-append_right ready (parked_values old) (values_at at old ++ parked_values (elsewhere at old)) all)))
-
-  pub unparked : {A E : Type 0} (at : ℕ) (result : Result A E) → OnOk result (come ≡ ready ++ values_at at old) → OnOk result (new ≡ elsewhere at old)
-      → OnErr result (new ≡ old) → OnErr result (come ≡ ready) → IsPermutation (ready ++ parked_values old) (come ++ parked_values new)
-  unparked at (Ok u) is left same kept = woken at is left
-  unparked at (Err e) is left same kept = unchanged same kept
 
   -- `unpark_all`
   pub all_woken : TakesAll old ready come → new ≡ [] → IsPermutation (ready ++ parked_values old) (come ++ parked_values new)
@@ -91,17 +75,24 @@ module _ (ready come : List Turn) (old new : List (ℕ × Turn)) where
   all_unparked (Ok u) all none same kept = all_woken all none
   all_unparked (Err e) all none same kept = unchanged same kept
 
-  -- `park`: x is taken from those that are ready
-  pub one_parked : (at : ℕ) (x : Turn) → IsPermutation ready (x ∷ come) → IsPermutation new ((at, x) ∷ old)
+  -- x is taken from those that are ready, and is parked
+  pub one_parked : (x : Turn) → IsPermutation ready (x ∷ come) → IsPermutation (parked_values new) (x ∷ parked_values old)
       → IsPermutation (ready ++ parked_values old) (come ++ parked_values new)
-  one_parked at x taken parked =
+  one_parked x taken parked =
       let vs = parked_values old in
-      let there : IsPermutation (x ∷ vs) (parked_values new) =
-      IsPermutation-sym (parked_values new) (x ∷ vs) (IsPermutation-map (λ (p : ℕ × Turn). p.1) new ((at, x) ∷ old) parked) in
+      let there : IsPermutation (x ∷ vs) (parked_values new) = IsPermutation-sym (parked_values new) (x ∷ vs) parked in
       IsPermutation-trans (ready ++ vs) (x ∷ (come ++ vs)) (come ++ parked_values new) (IsPermutation-append_left vs ready (x ∷ come) taken)
       (IsPermutation-trans (x ∷ (come ++ vs)) (come ++ x ∷ vs) (come ++ parked_values new)
       (IsPermutation-sym (come ++ x ∷ vs) (x ∷ (come ++ vs)) (IsPermutation-middle come x vs))
       (IsPermutation-append_right come (x ∷ vs) (parked_values new) there))
+
+  -- some of those that are parked are ready
+  pub some_woken : (more : List Turn) → come ≡ ready ++ more → IsPermutation (parked_values old) (more ++ parked_values new)
+      → IsPermutation (ready ++ parked_values old) (come ++ parked_values new)
+  some_woken more is same =
+      subst (λ (l : List Turn). IsPermutation (ready ++ parked_values old) (l ++ parked_values new)) (sym is)
+      (subst (IsPermutation (ready ++ parked_values old)) (sym (append_assoc ready more (parked_values new)))
+      (IsPermutation-append_right ready (parked_values old) (more ++ parked_values new) same))
 
   -- x is taken from those that are ready, and put back
   pub one_back : (x : Turn) (left : List Turn) → IsPermutation ready (x ∷ left) → come ≡ left ++ x ∷ [] → new ≡ old
@@ -112,6 +103,16 @@ module _ (ready come : List Turn) (old new : List (ℕ × Turn)) where
       (subst (IsPermutation ready) (sym back)
       (IsPermutation-trans ready (x ∷ left) (left ++ x ∷ []) taken
       (IsPermutation-sym (left ++ x ∷ []) (x ∷ left) (IsPermutation-to_front left x)))))
+
+-- `unpark`
+pub unparked : {E : Type 0} (ready come : List Turn) (old new : Parked Turn) (at : ℕ) (operation : OperationKind) (most : ℕ) (result : Result ℕ E)
+    → IfOk result (λ many. Wakes at operation most many old ready new come) → OnErr result (new ≡ old) → OnErr result (come ≡ ready)
+    → IsPermutation (ready ++ parked_values (all_parked old)) (come ++ parked_values (all_parked new))
+unparked ready come old new at operation most (Ok many) woken same kept =
+    some_woken ready come (all_parked old) (all_parked new) (take many (values_at at (waiting_for operation old))) woken.woken
+    (wakes_some at operation most many old ready new come woken)
+unparked ready come old new at operation most (Err e) woken same kept =
+    unchanged ready come (all_parked old) (all_parked new) (ap all_parked same) kept
 
 -- one step after another
 pub kept_then : (a b c : Crew) → KeepsAll a b → KeepsAll b c → KeepsAll a c

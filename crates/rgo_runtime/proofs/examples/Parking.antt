@@ -1,10 +1,10 @@
--- Examples: what holds of three parked values, and of prints from ticket 7 on.
-use Rattle.std.proofs.Common.{◌≡◌, ◌++◌, ◌∷◌, [], ℕ, List, Some, All, ap, arith, length, length-append, refl, subst, sym, ◌∙◌, take}
+-- Examples: what holds of three values in queues, of values that are parked for two operations, and of prints from ticket 7 on.
+use Rattle.std.proofs.Common.{◌≡◌, ◌++◌, ◌∷◌, [], ℕ, List, Some, All, ap, arith, length, length-append, refl, subst, sum, sym, ◌∙◌, take}
 use Rattle.std.proofs.lemmas.List.Elements.{All-cons, All-head, All-nil}
 use Rattle.std.proofs.lemmas.List.Sorted.{All-permutation, IsPermutation-reverse, IsPermutation-to_front, length_permutation}
 use Rattle.std.proofs.Math.Seq.{take-nil}
 use Rattle.rgo_outside.specs.Pieces.{IsEndOf}
-use Rattle.rgo_runtime.specs.Parking.{ParkingExamples, TakesAll, three_parked}
+use Rattle.rgo_runtime.specs.Parking.{ParkingExamples, QueueExamples, TakesAll, three_parked}
 use Rattle.rgo_runtime.specs.Printing.{AreFrom, GivesSome, PrintingExamples, bytes_of_prints}
 use Rattle.rgo_table_runs.specs.Goroutine.Acts.declared.prints.Print.{Print}
 
@@ -14,14 +14,27 @@ two_are_some (more, come, same) =
     let many : length more ≡ 3 = length_permutation (1 ∷ 2 ∷ 3 ∷ []) more same in
     omega (arith, few, many)
 
-pub parking : ParkingExamples
-parking = record {
-  woken = refl;
+pub queues : QueueExamples
+queues = record {
+  found = refl;
   left = refl;
   apart = λ e. cc;
   lost = λ e. cc;
+  oldest = refl;
+  youngest = refl;
   all = (3 ∷ 2 ∷ 1 ∷ [], refl, IsPermutation-reverse (1 ∷ 2 ∷ 3 ∷ []));
   some = two_are_some;
+}
+
+pub parking : ParkingExamples
+parking = record {
+  parks = record { joins = refl; others = refl; rest = refl };
+  parks_elsewhere = λ p. omega (arith, ap length p.joins);
+  parks_twice = λ p. omega (arith, ap (λ q. length q.senders) p.rest);
+  wakes = record { many_come = refl; woken = refl; left = refl; others = refl; rest = refl };
+  wakes_younger = λ w. omega (arith, ap sum w.woken);
+  wakes_none = λ w. omega (arith, ap length w.woken);
+  wakes_sender = λ w. omega (arith, ap (λ q. length q.senders) w.rest);
 }
 
 not_early : (third : Print) → third.ticket ≡ 9 → GivesSome (third ∷ []) 7 (Some []) (Some (1 ∷ [])) → ⊥

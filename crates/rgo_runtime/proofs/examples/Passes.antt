@@ -35,7 +35,7 @@ none_before_none (a ∷ before) since is = cc is
 -- why a turn was over implies one result only
 one_lack : (why : TableTurnEnd) → Tells why None → Tells why (Some Pages) → ⊥
 one_lack stop.Went p q = p
-one_lack (stop.Blocked at) p q = cc q
+one_lack (stop.Blocked at operation) p q = cc q
 one_lack (stop.Lost at) p q = cc q
 one_lack stop.Ended p q = p
 one_lack (stop.Stopped mark) p q = p

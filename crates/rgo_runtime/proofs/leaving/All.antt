@@ -16,10 +16,11 @@ use Rattle.rgo_table_runs.specs.closing.Members.{Member, retired}
 use Rattle.rgo_runtime.specs.Crew.{Crew}
 use Rattle.rgo_runtime.specs.Crews.{AreRetired, DriverKeeps, KeepsMembers, NobodyIsLost, its_goroutine, end_mark, member_of, members}
 use Rattle.rgo_runtime.specs.Leaving.{HaveAllLeft, HaveLeft, IsEmptied, LeavingExamples, goroutine_row}
-use Rattle.rgo_runtime.specs.Parking.{parked_values}
+use Rattle.rgo_runtime.specs.Parking.{Parked, all_parked, parked_values}
 use Rattle.rgo_runtime.specs.Passing.{IsBehind, seen_by}
 use Rattle.rgo_runtime.specs.Turns.{Turn}
 use Rattle.rgo_runtime.specs.declared.retiring.Left.{Left}
+use Rattle.rgo_runtime.proofs.crews.Parked.{values_of_all}
 use Rattle.rgo_runtime.proofs.crews.Parts.{in_permuted, keeps_after, keeps_nothing, keeps_permuted, keeps_then}
 use Rattle.rgo_runtime.proofs.leaving.One.{given_up, nobody_by_order}
 use Rattle.rgo_runtime.proofs.crews.Moving.{all_first, all_last}
@@ -232,6 +233,32 @@ group_gone gos gone before left group is last =
 pub none_parked : (gos gone before : List Goroutine) → IsPermutation gos (gone ++ before) → before ≡ [] → IsPermutation gone gos
 none_parked gos gone before is none =
     IsPermutation-sym gos gone (subst (IsPermutation gos) (ap (λ l. gone ++ l) none ∙ append-nil gone) is)
+
+-- those that wait for each of the operations are parked
+pub three_parts : (P : Turn → Type 0) (p : Parked Turn) → All P (parked_values (all_parked p))
+    → All P (parked_values p.senders) × All P (parked_values p.receivers) × All P (parked_values p.offerers)
+three_parts P p all =
+    let s = parked_values p.senders in
+    let r = parked_values p.receivers in
+    let o = parked_values p.offerers in
+    let each = subst (All P) (values_of_all p) all in
+    let rest = all_last P s (r ++ o) each in
+    (all_first P s (r ++ o) each, all_first P r o rest, all_last P r o rest)
+
+-- they have gone one after the other
+pub three_gone : (p : Parked Turn) (a b c : List Goroutine) → IsPermutation a (map its_goroutine (parked_values p.senders))
+    → IsPermutation b (map its_goroutine (parked_values p.receivers)) → IsPermutation c (map its_goroutine (parked_values p.offerers))
+    → IsPermutation ((a ++ b) ++ c) (map its_goroutine (parked_values (all_parked p)))
+three_gone p a b c first second third =
+    let s = map its_goroutine (parked_values p.senders) in
+    let r = map its_goroutine (parked_values p.receivers) in
+    let o = map its_goroutine (parked_values p.offerers) in
+    let all : map its_goroutine (parked_values (all_parked p)) ≡ (s ++ r) ++ o =
+    ap (map its_goroutine) (values_of_all p)
+    ∙ (map-append its_goroutine (parked_values p.senders) (parked_values p.receivers ++ parked_values p.offerers)
+    ∙ (ap (λ l. s ++ l) (map-append its_goroutine (parked_values p.receivers) (parked_values p.offerers)) ∙ sym (append_assoc s r o))) in
+    subst (IsPermutation ((a ++ b) ++ c)) (sym all)
+    (IsPermutation-append (a ++ b) (s ++ r) c o (IsPermutation-append a s b r first second) third)
 
 -- all have left
 pub all_gone : (ready gone parked born : List Goroutine) → IsPermutation gone parked

@@ -5,7 +5,7 @@ use Rattle.rgo_core.specs.Records.{ClockRec}
 use Rattle.rgo_core_steps.specs.Seats.{IsSeatOf}
 use Rattle.rgo_runtime.specs.Crews.{IsNewborn}
 use Rattle.rgo_runtime.proofs.leaving.All.{both_left, but_last, last_gone, last_one, nobody_leaves, none_left}
-use Rattle.rgo_runtime.proofs.lists.Groups.{nothing_in}
+use Rattle.rgo_runtime.proofs.lists.Queues.{nothing_in}
 use Rattle.rgo_runtime.proofs.retiring.retire_newborns.Goals as goal
 
 pub loop-goroutine-init : goal.loop-goroutine-init

@@ -3,7 +3,7 @@ use Rattle.std.proofs.Common.{◌≡◌, ◌∙◌, ap, arith, length, refl, sym
 use Rattle.std.proofs.lemmas.Bool.Decides.{nat_tests}
 use Rattle.rgo_runtime.specs.Leaving.{IsEmptied}
 use Rattle.rgo_runtime.proofs.leaving.All.{one_is_given_up, one_retires}
-use Rattle.rgo_runtime.proofs.lists.Groups.{nothing_in}
+use Rattle.rgo_runtime.proofs.lists.Queues.{nothing_in}
 use Rattle.rgo_runtime.proofs.retiring.retire_or_give_up.Goals.{then-new_prints-eq0, else-new_prints-eq0}
 use Rattle.rgo_runtime.proofs.retiring.retire_or_give_up.Goals.{else-is_empty-via-then-is_empty+else-has_place, else-is_empty-via-else-is_empty}
 use Rattle.rgo_runtime.proofs.retiring.retire_or_give_up.Goals as goal

@@ -1,71 +1,43 @@
-use Rattle.std.proofs.Common.{◌++◌, ◌<◌, [], All, ap, arith, length, map, reverse, subst, sym, ◌∙◌}
-use Rattle.std.proofs.lemmas.List.{length-append, length-map, map-append}
-use Rattle.std.proofs.lemmas.List.Sorted.{IsPermutation-refl}
+-- Those that wait for one operation leave after those that wait for another.
+use Rattle.std.proofs.Common.{◌++◌, ◌∙◌, All, IsPermutation, length, map, subst, sym}
 use Rattle.atomic_table.specs.Seated.{TableId}
 use Rattle.rgo_core.specs.Memory.Words.{clock_at}
 use Rattle.rgo_core_steps.specs.Seats.{IsSeatOf}
 use Rattle.rgo_runtime.specs.Crews.{IsOfCrew, its_goroutine}
 use Rattle.rgo_runtime.specs.Parking.{parked_values}
-use Rattle.rgo_runtime.proofs.leaving.All.{both_left, but_last, group_gone, last_ones, nobody_leaves, none_parked}
+use Rattle.rgo_runtime.proofs.leaving.All.{both_left, three_gone, three_parts}
 use Rattle.rgo_runtime.proofs.retiring.retire_parked.Goals as goal
 
-pub loop-group-init : goal.loop-group-init
-loop-group-init c = record {
-  gone = [];
-  are = IsPermutation-refl (map its_goroutine (parked_values c.args.parked));
-  all = c.requires.all;
-  left = nobody_leaves c.args.run.now.setup c.args.left.now;
-}
+pub retire_queues-requires-clause-all : goal.retire_queues-requires-clause-all
+retire_queues-requires-clause-all c =
+    let P = IsOfCrew c.args.run.now (length c.args.left.now.shares) in
+    subst (λ q. All P (parked_values q)) (sym c.into_queues-senders.ensures.0) (three_parts P c.args.parked c.requires.all).0
 
-pub retire_turns-requires-clause-all : goal.retire_turns-requires-clause-all
-retire_turns-requires-clause-all c =
-    let n = length c.args.left.now.shares in
-    subst (λ k. All (IsOfCrew c.args.run.now k) c.in-Some.group.items) (sym c.loop-group.invariant.left.places)
-    (last_ones (IsOfCrew c.args.run.now n) (parked_values c.loop-group.parked) (parked_values c.pop.new.self) c.in-Some.group.items c.in-Some.ensures.rest
-    c.loop-group.invariant.all)
+pub retire_queues-requires-2-clause-all : goal.retire_queues-requires-2-clause-all
+retire_queues-requires-2-clause-all c =
+    let P = IsOfCrew c.args.run.now (length c.args.left.now.shares) in
+    subst (λ n. All (IsOfCrew c.args.run.now n) (parked_values c.into_queues-senders.result.1)) (sym c.retire_queues.ensures.2.places)
+    (subst (λ q. All P (parked_values q)) (sym c.into_queues-senders.ensures.1) (three_parts P c.args.parked c.requires.all).1)
 
-pub retire_turns-requires-clause-own : goal.retire_turns-requires-clause-own
-retire_turns-requires-clause-own c =
-    subst (λ (id : TableId). IsSeatOf id c.args.run.now.table clock_at) (sym c.loop-group.invariant.left.own) c.requires.own
-
-pub loop-group-preserved : goal.loop-group-preserved
-loop-group-preserved c =
-    let before = parked_values c.loop-group.parked in
-    let rest = parked_values c.pop.new.self in
-    let group = c.in-Some.group.items in
-    let gone = c.loop-group.invariant.gone in
-    let gos = map its_goroutine group in
-    record {
-      gone = gone ++ reverse gos;
-      are = group_gone (map its_goroutine (parked_values c.args.parked)) gone (map its_goroutine before) (map its_goroutine rest) gos
-          c.loop-group.invariant.are (ap (map its_goroutine) c.in-Some.ensures.rest ∙ map-append its_goroutine rest group);
-      all = but_last (IsOfCrew c.args.run.now (length c.args.left.now.shares)) before rest group c.in-Some.ensures.rest
-          c.loop-group.invariant.all;
-      left = both_left c.args.run.now.setup gone (reverse gos) c.args.left.now c.loop-group.left c.retire_turns.new.left
-          c.loop-group.invariant.left c.retire_turns.ensures;
-    }
-
-pub loop-group-smaller : goal.loop-group-smaller
-loop-group-smaller c =
-    let before = c.loop-group.parked in
-    let rest = c.pop.new.self in
-    let group = c.in-Some.group.items in
-    let fewer : length rest < length before =
-    omega (
-      arith,
-      c.in-Some.ensures.some,
-      ap length c.in-Some.ensures.rest,
-      length-append (parked_values rest) group,
-      length-map before (λ p. p.1),
-      length-map rest (λ p. p.1),
-    ) in
-    fewer
+pub retire_queues-requires-3-clause-all : goal.retire_queues-requires-3-clause-all
+retire_queues-requires-3-clause-all c =
+    let P = IsOfCrew c.args.run.now (length c.args.left.now.shares) in
+    subst (λ n. All (IsOfCrew c.args.run.now n) (parked_values c.into_queues-senders.result.2))
+    (sym (c.retire_queues-2.ensures.2.places ∙ c.retire_queues.ensures.2.places))
+    (subst (λ q. All P (parked_values q)) (sym c.into_queues-senders.ensures.2) (three_parts P c.args.parked c.requires.all).2)
 
 pub returns : goal.returns
 returns c =
-    let is = c.loop-group.invariant in (
-      is.gone,
-      none_parked (map its_goroutine (parked_values c.args.parked)) is.gone (map its_goroutine (parked_values c.loop-group.parked)) is.are
-          (ap (λ ps. map its_goroutine (parked_values ps)) c.in_default.ensures.some),
-      is.left,
+    let T = c.args.run.now.setup in
+    let first = c.retire_queues.ensures in
+    let second = c.retire_queues-2.ensures in
+    let third = c.retire_queues-3.ensures in (
+      (first.0 ++ second.0) ++ third.0,
+      three_gone c.args.parked first.0 second.0 third.0
+          (subst (λ q. IsPermutation first.0 (map its_goroutine (parked_values q))) c.into_queues-senders.ensures.0 first.1)
+          (subst (λ q. IsPermutation second.0 (map its_goroutine (parked_values q))) c.into_queues-senders.ensures.1 second.1)
+          (subst (λ q. IsPermutation third.0 (map its_goroutine (parked_values q))) c.into_queues-senders.ensures.2 third.1),
+      both_left T (first.0 ++ second.0) third.0 c.args.left.now c.retire_queues-2.new.left c.retire_queues-3.new.left
+          (both_left T first.0 second.0 c.args.left.now c.retire_queues.new.left c.retire_queues-2.new.left first.2 second.2)
+          third.2,
     )

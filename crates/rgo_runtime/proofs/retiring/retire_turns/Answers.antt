@@ -7,7 +7,7 @@ use Rattle.rgo_table_runs.specs.Goroutine.Goroutines.{IsOf, IsTidy, record_of_go
 use Rattle.rgo_table_runs.specs.Goroutine.declared.goroutine.Goroutine.{Goroutine}
 use Rattle.rgo_runtime.specs.Crews.{IsOfCrew, its_goroutine}
 use Rattle.rgo_runtime.proofs.leaving.All.{both_left, but_last, last_one, last_turn_gone, nobody_leaves, none_left}
-use Rattle.rgo_runtime.proofs.lists.Groups.{nothing_in}
+use Rattle.rgo_runtime.proofs.lists.Queues.{nothing_in}
 use Rattle.rgo_runtime.proofs.retiring.retire_turns.Goals as goal
 
 pub loop-turn-init : goal.loop-turn-init

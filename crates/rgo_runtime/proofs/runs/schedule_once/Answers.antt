@@ -16,15 +16,15 @@ returns-in-Err-flush_prints-clause-ends g c =
     (goes_quietly c.args.crew.now c.run_round.new.self was c.run_round.ensures.kept c.run_round.ensures.next)
     (fails c.run_round.new.self c.flush_prints.new.self was now c.flush_prints.ensures.rest c.in-Err-flush_prints.ensures.part)
 
-pub check_end-requires-clause-next : goal.check_end-requires-clause-next
-check_end-requires-clause-next g c = none_next c.flush_prints.new.self.waiting c.flush_prints.new.self.next c.in-Ok-flush_prints.ensures.given.none
+pub check_end-why-requires-clause-next : goal.check_end-why-requires-clause-next
+check_end-why-requires-clause-next g c = none_next c.flush_prints.new.self.waiting c.flush_prints.new.self.next c.in-Ok-flush_prints.ensures.given.none
 
 pub returns-clause-ends : goal.returns-clause-ends
 returns-clause-ends g c =
     let was = g.K.Sink.contents c.args.out.now in
     let now = g.K.Sink.contents c.flush_prints.new.out in
-    comes_then c.check_end.result c.args.crew.now c.flush_prints.new.self c.check_end.new.crew was now now
+    comes_then c.check_end-why.result c.args.crew.now c.flush_prints.new.self c.check_end-why.new.crew was now now
     (goes_then c.args.crew.now c.run_round.new.self c.flush_prints.new.self was was now
     (goes_quietly c.args.crew.now c.run_round.new.self was c.run_round.ensures.kept c.run_round.ensures.next)
     (goes_out c.run_round.new.self c.flush_prints.new.self was now c.flush_prints.ensures.rest c.in-Ok-flush_prints.ensures.given))
-    (c.check_end.ensures.ends now)
+    (c.check_end-why.ensures.ends now)

@@ -8,6 +8,7 @@ invariant-loop-place l = record {
   run : l.self.run ≡ l.fn.self.run;
   next : l.self.next ≡ l.fn.self.next;
   place : l.place ≤ length l.self.ready;
+  turns : l.place ≤ l.turns;
 }
 
 abbrev pub decreases-loop-place : goal.decreases-loop-place

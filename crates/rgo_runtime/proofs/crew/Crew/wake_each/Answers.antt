@@ -2,13 +2,13 @@ use Rattle.std.proofs.Common.{◌∙◌}
 use Rattle.rgo_runtime.proofs.crews.Moving.{kept_then}
 use Rattle.rgo_runtime.proofs.crew.Crew.wake_each.Goals as goal
 
-pub returns-in_err-wake-clause-kept : goal.returns-in_err-wake-clause-kept
-returns-in_err-wake-clause-kept c =
-    kept_then c.args.self.now c.loop-at.self c.wake.new.self c.loop-at.invariant.kept c.wake.ensures.kept
+pub returns-in_err-wake_by-clause-kept : goal.returns-in_err-wake_by-clause-kept
+returns-in_err-wake_by-clause-kept c =
+    kept_then c.args.self.now c.loop-place.self c.wake_by.new.self c.loop-place.invariant.kept c.wake_by.ensures.kept
 
-pub loop-at-preserved : goal.loop-at-preserved
-loop-at-preserved c = record {
-  kept = kept_then c.args.self.now c.loop-at.self c.wake.new.self c.loop-at.invariant.kept c.wake.ensures.kept;
-  run = c.wake.ensures.run ∙ c.loop-at.invariant.run;
-  next = c.wake.ensures.next ∙ c.loop-at.invariant.next;
+pub loop-place-preserved : goal.loop-place-preserved
+loop-place-preserved c = record {
+  kept = kept_then c.args.self.now c.loop-place.self c.wake_by.new.self c.loop-place.invariant.kept c.wake_by.ensures.kept;
+  run = c.wake_by.ensures.run ∙ c.loop-place.invariant.run;
+  next = c.wake_by.ensures.next ∙ c.loop-place.invariant.next;
 }
