@@ -7,7 +7,3 @@ mod parking;
 mod printing;
 #[cfg(test)]
 mod shares;
-#[cfg(test)]
-mod texts;
-#[cfg(test)]
-mod waking;
