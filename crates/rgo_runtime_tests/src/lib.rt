@@ -7,3 +7,7 @@ mod parking;
 mod printing;
 #[cfg(test)]
 mod shares;
+#[cfg(test)]
+mod texts;
+#[cfg(test)]
+mod waking;
